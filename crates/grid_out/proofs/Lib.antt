@@ -1,0 +1,3 @@
+pub mod FaultLaws
+mod ShelfReads
+pub mod SinkLaws

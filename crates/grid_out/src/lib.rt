@@ -1,0 +1,18 @@
+//! The outside of the program: traits to read named content and to write text, and forms in memory.
+#![tactic(auto)]
+
+mod failure;
+mod file_list;
+mod mem_shelf;
+mod mem_sink;
+mod reading;
+mod sure;
+mod writing;
+
+pub use failure::{Failed, NoMemory};
+pub use file_list::Files;
+pub use mem_shelf::MemShelf;
+pub use mem_sink::MemSink;
+pub use reading::{Shelf, ShelfFault};
+pub use sure::{SureShelf, SureSink};
+pub use writing::Sink;
