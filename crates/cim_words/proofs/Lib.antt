@@ -1,0 +1,5 @@
+pub mod IdBounds
+pub mod IdTexts
+pub mod PhaseTexts
+pub mod Spellings
+pub mod Statements

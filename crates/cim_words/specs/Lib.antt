@@ -1,0 +1,9 @@
+pub mod Class
+pub mod Held
+pub mod IdText
+pub mod KnownProp
+pub mod Object
+pub mod PhaseParts
+pub mod Phases
+pub mod Prop
+pub mod Written
