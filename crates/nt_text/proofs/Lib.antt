@@ -1,0 +1,5 @@
+pub mod Cuts
+pub mod Free
+pub mod OneLine
+pub mod Readings
+pub mod Spellings
