@@ -1,0 +1,17 @@
+pub mod Attachment
+pub mod Base
+pub mod Command
+pub mod Edges
+pub mod Gather
+pub mod Graph
+pub mod Marks
+pub mod Network
+pub mod Numbering
+pub mod Reach
+pub mod Rows
+pub mod Run
+pub mod Said
+pub mod Status
+pub mod Terminals
+pub mod Trace
+pub mod TraceText

@@ -1,0 +1,60 @@
+//! A run of the program, from its words to its output.
+
+ghost use Rattle.std.specs.Prelude.{◌≡◌, ◌⊎◌, ℕ, List, map, string_bytes, IsTrue};
+ghost use Rattle.grid_out.specs.Faults.{CountsFaults};
+ghost use Rattle.room.specs.Run.{Answers, Writes, is_read_fault, is_refusal};
+ghost use Rattle.room.specs.Status.{status_line};
+
+use crate::answer::answer;
+use crate::status::Status;
+use grid_out::{Shelf, Sink};
+use std::alloc::Global;
+
+/// Does what the words say, over named content and an output.
+pub fn run_plain<F: Shelf, K: Sink>(
+    alloc: Global,
+    words: &[String],
+    shelf: &mut F,
+    out: &mut K,
+) -> Status
+    // The status and what was written follow from the words and from what the shelf told.
+    ensures says { (text : List ℕ) × Answers (F.content shelf.old) (map string_bytes words.now) result text
+        × Writes result (K.written out.old) (K.written out.new) (K.faults out.old) (K.faults out.new) text }
+
+    // A fault of the shelf is answered exactly where there was one in this call.
+    ensures read_fault { CountsFaults (F.faults shelf.old) (F.faults shelf.new) (is_read_fault result) }
+    ensures kept { (name : List ℕ) → F.content shelf.new name ≡ F.content shelf.old name }
+{
+    match answer(alloc, words, shelf) {
+        Ok(text) => tell(&text, out),
+        Err(refusal) => {
+            refuse(refusal, out);
+            refusal
+        }
+    }
+}
+
+/// Writes the text that was asked for.
+fn tell<K: Sink>(text: &[u8], out: &mut K) -> Status
+    ensures { ((result ≡ Status.Ok) × Writes Status.Ok (K.written out.old) (K.written out.new) (K.faults out.old) (K.faults out.new) text.now)
+        ⊎ ((result ≡ Status.WriteFault) × Writes Status.WriteFault (K.written out.old) (K.written out.new) (K.faults out.old) (K.faults out.new) text.now) }
+{
+    match out.write_all(text) {
+        Ok(()) => Status::Ok,
+        Err(_) => Status::WriteFault,
+    }
+}
+
+/// Writes the line of a refusal, where it has one. A line that the output does not take changes nothing.
+fn refuse<K: Sink>(refusal: Status, out: &mut K)
+    requires { IsTrue (is_refusal refusal) }
+    ensures { Writes refusal (K.written out.old) (K.written out.new) (K.faults out.old) (K.faults out.new) (status_line refusal) }
+{
+    let line = refusal.line();
+    if !line.is_empty() {
+        let _ = out.write_all(line.as_bytes());
+    }
+}
+
+#[cfg(test)]
+mod tests;
