@@ -1,5 +1,10 @@
+pub mod Digits
 pub mod IdBounds
 pub mod IdTexts
+pub mod Lengths
+pub mod Orders
+pub mod PhaseNames
 pub mod PhaseTexts
+pub mod Powers
 pub mod Spellings
 pub mod Statements

@@ -25,13 +25,15 @@ plain_spelling (byte ∷ text) all =
 pub iri_spelling-id_iri : (n : ℕ) → flat_map iri_spelling (id_iri n) ≡ id_iri n
 iri_spelling-id_iri n = plain_spelling (id_iri n) (id_iri-characters n)
 
--- the IRI of an identifier is ASCII, and so it is text
+-- each byte of a plain identifier is ASCII
 id_byte : (byte : ℕ) → IsTrue (is_id_character byte) → byte < 128
 id_byte byte is = grind (arith, nat_tests)
 
+-- and so is what stands before it
 prefix : IsAscii (codes "urn:uuid:")
 prefix = search (rules, IsAscii-cons, IsAscii-nil) depth 15
 
+-- the IRI of an identifier is ASCII, and so it is text
 pub IsUtf8-id_iri : (n : ℕ) → IsUtf8 (id_iri n)
 unfolding id_iri
 IsUtf8-id_iri n = IsUtf8-append (codes "urn:uuid:") (id_text n) (IsUtf8-from_ascii (codes "urn:uuid:") prefix) (IsUtf8-from_ascii (id_text n) (IsAscii-from_all (id_text n) (λ i d within. id_byte _ (id_text-characters n i d within))))

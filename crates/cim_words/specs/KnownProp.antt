@@ -29,6 +29,29 @@ known_iri K18 = cim_namespace ++ codes "SwitchPhase.closed"
 known_iri K19 = cim_namespace ++ codes "SwitchPhase.phaseSide1"
 known_iri K20 = cim_namespace ++ codes "SwitchPhase.phaseSide2"
 
+-- its row in the table of properties
+abbrev pub known_row : KnownProp → ℕ
+known_row K1 = 1
+known_row K2 = 2
+known_row K3 = 3
+known_row K4 = 4
+known_row K5 = 5
+known_row K6 = 6
+known_row K7 = 7
+known_row K8 = 8
+known_row K9 = 9
+known_row K10 = 10
+known_row K11 = 11
+known_row K12 = 12
+known_row K13 = 13
+known_row K14 = 14
+known_row K15 = 15
+known_row K16 = 16
+known_row K17 = 17
+known_row K18 = 18
+known_row K19 = 19
+known_row K20 = 20
+
 -- the known property that an IRI names
 unfoldable pub known_prop : List ℕ → Option KnownProp
 known_prop text = find (λ k. bytes_eq (known_iri k) text) KNOWN_PROPS

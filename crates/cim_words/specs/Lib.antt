@@ -1,9 +1,14 @@
 pub mod Class
+pub mod Groups
 pub mod Held
 pub mod IdText
 pub mod KnownProp
+pub mod Length
 pub mod Object
+pub mod Order
+pub mod PhaseNames
 pub mod PhaseParts
 pub mod Phases
 pub mod Prop
+pub mod Values
 pub mod Written

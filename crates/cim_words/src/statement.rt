@@ -1,6 +1,6 @@
 //! Statements.
 
-ghost use Rattle.std.specs.Prelude.{IsTrue};
+ghost use Rattle.std.specs.Prelude.{◌≡◌, IfOk, IsTrue};
 ghost use Rattle.cim_words.specs.Prop.{is_proper_prop};
 ghost use Rattle.cim_words.specs.Object.{is_proper_object};
 
@@ -24,8 +24,6 @@ pub struct Statement {
 }
 
 impl Statement {
-    ghost use Rattle.std.specs.Prelude.{◌≡◌, IfOk};
-
     /// Another of the same.
     pub fn copy(&self, alloc: Global) -> Result<Statement, NoMemory>
         ensures { IfOk result (λ statement. statement ≡ self.now) }
@@ -50,40 +48,64 @@ mod tests {
 
     const ONE: &str = "urn:uuid:00000000-0000-4000-8000-0000000000a1";
 
+    // The text of an object, and whether it is an IRI or a literal's.
+    #[derive(Clone, Copy)]
+    enum Given {
+        Iri(&'static str),
+        Text(&'static str),
+    }
+
+    // Statements from the least to the greatest: the number of the subject, the property and the object.
+    const ASCENDING: [(u128, &str, Given); 7] = [
+        (1, TYPE, Given::Iri("http://b")),
+        (1, NODE, Given::Iri(ONE)),
+        (1, NODE, Given::Iri("http://a")),
+        (1, NODE, Given::Text("A")),
+        (1, "http://a", Given::Iri(ONE)),
+        (1, "http://b", Given::Iri(ONE)),
+        (2, TYPE, Given::Iri("http://a")),
+    ];
+
+    fn object(alloc: Global, given: Given) -> Result<Object, NoMemory>
+        ensures { IfOk result (λ object. IsTrue (is_proper_object object)) }
+    {
+        match given {
+            Given::Iri(text) => Object::of_iri(alloc, text),
+            Given::Text(text) => Ok(Object::Text(Word::of(alloc, text)?)),
+        }
+    }
+
     fn statement(
         alloc: Global,
         number: u128,
         prop: &str,
-        object: Object,
-    ) -> Result<Statement, NoMemory>
-        requires { IsTrue (is_proper_object object) }
-    {
+        given: Given,
+    ) -> Result<Statement, NoMemory> {
         Ok(Statement {
             subject: Id::of(number),
             prop: Prop::of_iri(alloc, prop)?,
-            object,
+            object: object(alloc, given)?,
         })
     }
 
     #[test]
-    fn ordered(rt: HostRuntime) -> Result<(), Fail> {
+    fn ordered(rt: HostRuntime) -> Result<(), NoMemory> {
         let alloc = rt.alloc();
-        let ascending = [
-            statement(alloc, 1, TYPE, Object::of_iri(alloc, "http://b")?)?,
-            statement(alloc, 1, NODE, Object::of_iri(alloc, ONE)?)?,
-            statement(alloc, 1, NODE, Object::of_iri(alloc, "http://a")?)?,
-            statement(alloc, 1, NODE, Object::Text(Word::of(alloc, "A")?))?,
-            statement(alloc, 1, "http://a", Object::of_iri(alloc, ONE)?)?,
-            statement(alloc, 1, "http://b", Object::of_iri(alloc, ONE)?)?,
-            statement(alloc, 2, TYPE, Object::of_iri(alloc, "http://a")?)?,
-        ];
-        for pair in ascending.windows(2) {
-            assert!(rt; pair.len() == 2);
-            assert!(rt; pair[0] < pair[1]);
+        for (lesser, greater) in ASCENDING.iter().zip(ASCENDING.iter().skip(1)) {
+            let lesser = statement(alloc, lesser.0, lesser.1, lesser.2)?;
+            let greater = statement(alloc, greater.0, greater.1, greater.2)?;
+            assert!(rt; lesser < greater);
         }
-        for one in ascending.iter() {
+        Ok(())
+    }
+
+    #[test]
+    fn copied(rt: HostRuntime) -> Result<(), NoMemory> {
+        let alloc = rt.alloc();
+        for (number, prop, given) in ASCENDING {
+            let one = statement(alloc, number, prop, given)?;
             let copy = one.copy(alloc)?;
-            assert!(rt; copy == *one);
+            assert!(rt; copy == one);
         }
         Ok(())
     }
