@@ -1,0 +1,5 @@
+pub mod Giving
+pub mod Kept
+pub mod Members
+pub mod Searches
+pub mod Subjects

@@ -1,0 +1,34 @@
+//! Sets made of others.
+
+ghost use Rattle.std.specs.Prelude.{◌≡◌};
+ghost use Rattle.statement_set.specs.Gives.{Gives};
+ghost use Rattle.statement_set.specs.Set.{IsInEither, IsInFirstAlone};
+
+use crate::copies::{append_copies, copies_apart};
+use crate::once::order_once;
+use crate::refusal::SetRefusal;
+use crate::set::StatementSet;
+use cim_words::Statements;
+use std::alloc::Global;
+
+impl StatementSet {
+    /// The set of these statements and more.
+    pub fn with(&self, alloc: Global, more: &Statements) -> Result<StatementSet, SetRefusal>
+        ensures { Gives (IsInEither self.now more.now) result }
+    {
+        let mut all = Vec::new(alloc);
+        append_copies(self.statements(), &mut all)?;
+        append_copies(more.as_slice(), &mut all)?;
+        StatementSet::from_list(Statements::of(all))
+    }
+
+    /// The set of those of these statements that are not among others.
+    pub fn without(&self, alloc: Global, less: &Statements) -> Result<StatementSet, SetRefusal>
+        ensures { Gives (IsInFirstAlone self.now less.now) result }
+    {
+        let mut gone = Vec::new(alloc);
+        append_copies(less.as_slice(), &mut gone)?;
+        order_once(&mut gone);
+        StatementSet::of_ordered(copies_apart(alloc, self.statements(), &gone)?)
+    }
+}
