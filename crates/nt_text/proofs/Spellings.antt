@@ -55,7 +55,7 @@ spelling_form Iri byte = iri_form byte
 spelling_form Literal byte = literal_form_at byte (byte == quote) (byte == backslash) (byte == line_feed) (byte == carriage_return) refl refl refl refl
 
 -- a list of one byte or more, as a slice's first element and the rest
-uncons : (s : List ℕ) → 1 ≤ length s → s ≡ get_or s 0 0 ∷ take (length s - 1) (drop 1 s)
+pub uncons : (s : List ℕ) → 1 ≤ length s → s ≡ get_or s 0 0 ∷ take (length s - 1) (drop 1 s)
 uncons [] some = absurd (omega arith)
 uncons (x ∷ t) some = grind (arith, common_steps)
 

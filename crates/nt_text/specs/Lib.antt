@@ -1,2 +1,12 @@
-pub mod Spelling
 pub mod Cut
+pub mod Document
+pub mod Ends
+pub mod Grammar
+pub mod Parts
+pub mod Quotes
+pub mod Reader
+pub mod ReaderSteps
+pub mod Reading
+pub mod Refusal
+pub mod Run
+pub mod Spelling

@@ -1,13 +1,25 @@
 //! N-Triples lines (RDF 1.1 N-Triples): the one line that is written for a statement, read and written.
 #![tactic(auto)]
 
+mod characters;
 mod cut;
+mod ends;
+mod line;
+mod quotes;
+mod reader;
 mod reading;
+mod refusal;
+mod run;
 mod spelling;
+mod terms;
 mod token;
+mod triple;
 mod writing;
 
 pub use cim_words::NoMemory;
 pub use cut::cut_at;
+pub use line::{LINE_LIMIT, lines_have_one_reading, read_line, written_lines_are_read};
+pub use reader::{LineReader, documents_have_one_reading, read_document};
 pub use reading::read_written;
+pub use refusal::{LineFault, LineRefusal, NtFault};
 pub use writing::{lines_are_whole, lines_differ, write_statement};

@@ -39,7 +39,7 @@ fn push_byte(coding: Coding, byte: u8, into: &mut Vec<u8>) -> Result<(), NoMemor
 
 /// Whether a byte may stand in an IRI as it is.
 #[tactic(auto, unfolding(cim_words::specs::Written::is_iri_character))]
-fn is_iri_character(byte: u8) -> bool
+pub(crate) fn is_iri_character(byte: u8) -> bool
     ensures { result ≡ written.is_iri_character byte }
 {
     byte > b' '
