@@ -1,0 +1,14 @@
+pub mod Held
+pub mod Lists
+pub mod Names
+pub mod NamingRows
+pub mod Parts
+pub mod PlaceLemmas
+pub mod PlaceOrder
+pub mod RowValues
+pub mod Stable
+pub mod Stages
+pub mod TypeRows
+pub mod RuleLemmas
+pub mod Runs
+pub mod Walks

@@ -1,0 +1,165 @@
+-- Places of marks, as the rows of a table that name segments give them.
+use Rattle.std.proofs.Common.{◌≡◌, ℕ, ◌+◌, ◌<◌, ◌≤◌, ◌==◌, List, [], ◌∷◌, ◌++◌, map, length, take, get_or, Bool, true, false, not, ◌&&◌, ◌||◌, refl, sym, ap, ◌∙◌}
+use Rattle.std.specs.Prelude.{nat_eq}
+use Rattle.std.specs.List.{filter, list_any, dedup, Contains}
+use Rattle.std.specs.Cmp.{IsEquivalence}
+use Rattle.std.proofs.lemmas.List.{take_all}
+use Rattle.std.proofs.lemmas.List.Folds.{list_any-append, list_any_more, Any-from_list_any, list_any-from_Any}
+use Rattle.std.proofs.lemmas.List.Kept.{Contains-dedup, Contains-from_dedup}
+use Rattle.cim_words.specs.declared.identifier.Id.{Id}
+use Rattle.cim_words.specs.declared.known_prop.KnownProp.{KnownProp}
+use Rattle.cim_words.specs.declared.length.Length.{Length}
+use Rattle.cim_words.specs.declared.statement.Statement.{Statement}
+use Rattle.cim_profile.specs.Facts.{HoldsNaming, mm_of, number_of_id}
+use Rattle.cim_profile.specs.Model.{naming}
+use Rattle.cim_profile.specs.Places.{is_at, is_other, place_at}
+use Rattle.cim_profile.specs.Rules.{share_one}
+use Rattle.cim_profile.specs.Table.{has_key, values_at}
+use Rattle.cim_profile.specs.declared.marks.Place.{Place}
+use Rattle.cim_profile.specs.declared.table.Row.{Row}
+use Rattle.cim_profile.proofs.Lists.{any_said, any_read}
+use Rattle.cim_profile.proofs.RowValues.{map_itself}
+
+-- whether a mark passes a test at one of its lengths, if it is of a kind
+abbrev pub passes_at : (kept : ℕ → Bool) (lengths : ℕ → List ℕ) → (ℕ → ℕ → Bool) → ℕ → Bool
+passes_at kept lengths test y = kept y && list_any (λ n. test n y) (lengths y)
+
+-- the same of the mark in a row, if it is of a segment
+abbrev pub row_passes : (kept : ℕ → Bool) (lengths : ℕ → List ℕ) → ℕ → (ℕ → ℕ → Bool) → Row Id → Bool
+row_passes kept lengths s test row = row.key.number == s && passes_at kept lengths test row.value.number
+
+-- places hold the marks in rows, at all their lengths and nothing else
+abbrev pub IsPlacing : (kept : ℕ → Bool) (lengths : ℕ → List ℕ) → List (Row Id) → List Place → Type 0
+IsPlacing kept lengths rows places = (s : ℕ) (test : ℕ → ℕ → Bool) → list_any (is_at s test) places ≡ list_any (row_passes kept lengths s test) rows
+
+-- what is read past the end of rows
+abbrev pub no_row : Row Id
+no_row = record { key = record { number = 0 }; value = record { number = 0 } }
+
+or_nothing : (a b : Bool) → b ≡ false → a ≡ (a || b)
+or_nothing true b h = refl
+or_nothing false b h = sym h
+
+and_not : (a b : Bool) → b ≡ false → (a && b) ≡ false
+and_not true b h = h
+and_not false b h = refl
+
+both : (a b c : Bool) → b ≡ true → (a && c) ≡ (a && (b && c))
+both a b c h = rw h refl
+
+no_one : {X : Type 0} (xs : List X) → list_any (λ x. false) xs ≡ false
+no_one [] = refl
+no_one (x ∷ xs) = no_one xs
+
+-- a test that each element takes along
+along : {X : Type 0} (b : Bool) (p : X → Bool) (xs : List X) → list_any (λ x. b && p x) xs ≡ (b && list_any p xs)
+along true p xs = refl
+along false p xs = no_one xs
+
+-- one mark at some lengths
+here : (s : ℕ) (test : ℕ → ℕ → Bool) (segment mark : Id) (lengths : List Length) (spelled : List ℕ) → map mm_of lengths ≡ spelled
+    → list_any (is_at s test) (map (place_at segment mark) lengths) ≡ (segment.number == s && list_any (λ n. test n mark.number) spelled)
+here s test segment mark lengths spelled same =
+    any_read (is_at s test) (place_at segment mark) lengths
+    ∙ along (segment.number == s) (λ (l : Length). test l.mm mark.number) lengths
+    ∙ ap (λ (b : Bool). segment.number == s && b) (sym (any_read (λ n. test n mark.number) mm_of lengths) ∙ ap (list_any (λ n. test n mark.number)) same)
+
+-- one more row, whose mark is of another kind, or of this
+pub placing_past : (kept : ℕ → Bool) (lengths : ℕ → List ℕ) (rows : List (Row Id)) (i : ℕ) (d : Row Id) (places : List Place)
+    → i < length rows → kept (get_or rows i d).value.number ≡ false
+    → IsPlacing kept lengths (take i rows) places → IsPlacing kept lengths (take (i + 1) rows) places
+placing_past kept lengths rows i d places within other placing s test =
+    let row : Row Id = get_or rows i d in
+    let fails : passes_at kept lengths test row.value.number ≡ false = ap (λ (b : Bool). b && list_any (λ n. test n row.value.number) (lengths row.value.number)) other in
+    placing s test
+    ∙ or_nothing (list_any (row_passes kept lengths s test) (take i rows)) (row_passes kept lengths s test row) (and_not (row.key.number == s) _ fails)
+    ∙ sym (list_any_more (row_passes kept lengths s test) rows i d within)
+
+pub placing_more : (kept : ℕ → Bool) (lengths : ℕ → List ℕ) (rows : List (Row Id)) (i : ℕ) (d : Row Id) (places added : List Place) (own : List Length)
+    → i < length rows → kept (get_or rows i d).value.number ≡ true → map mm_of own ≡ lengths (get_or rows i d).value.number
+    → added ≡ places ++ map (place_at (get_or rows i d).key (get_or rows i d).value) own
+    → IsPlacing kept lengths (take i rows) places → IsPlacing kept lengths (take (i + 1) rows) added
+placing_more kept lengths rows i d places added own within is same more placing s test =
+    let row : Row Id = get_or rows i d in
+    ap (list_any (is_at s test)) more
+    ∙ list_any-append (is_at s test) places (map (place_at row.key row.value) own)
+    ∙ ap (λ (b : Bool). b || list_any (is_at s test) (map (place_at row.key row.value) own)) (placing s test)
+    ∙ ap (λ (b : Bool). list_any (row_passes kept lengths s test) (take i rows) || b) (here s test row.key row.value own _ same ∙ both (row.key.number == s) _ _ is)
+    ∙ sym (list_any_more (row_passes kept lengths s test) rows i d within)
+
+-- the marks in all rows are those that name a segment and are of the kind
+pub placing_all : (kept : ℕ → Bool) (lengths : ℕ → List ℕ) (k : KnownProp) (m : List Statement) (rows : List (Row Id)) (i : ℕ) (places : List Place)
+    → length rows ≤ i → HoldsNaming k m rows → IsPlacing kept lengths (take i rows) places
+    → (s : ℕ) (test : ℕ → ℕ → Bool) → list_any (is_at s test) places ≡ list_any (λ y. list_any (λ n. test n y) (lengths y)) (filter kept (naming m k s))
+placing_all kept lengths k m rows i places all holds placing s test =
+    let passes : ℕ → Bool = passes_at kept lengths test in
+    placing s test
+    ∙ ap (list_any (row_passes kept lengths s test)) (take_all i rows all)
+    ∙ sym (any_said (λ (id : Id). passes id.number) (λ (row : Row Id). row.value) (has_key s) rows)
+    ∙ sym (any_read passes number_of_id (values_at rows s))
+    ∙ ap (list_any passes) (holds s)
+    ∙ sym (any_said (λ y. list_any (λ n. test n y) (lengths y)) (λ (y : ℕ). y) kept (naming m k s))
+    ∙ ap (list_any (λ y. list_any (λ n. test n y) (lengths y))) (map_itself (filter kept (naming m k s)))
+
+-- ---- the order of places, and each once
+
+same_answer : (a b : Bool) → (a ≡ true → b ≡ true) → (b ≡ true → a ≡ true) → a ≡ b
+same_answer true b h g = sym (h refl)
+same_answer false true h g = g refl
+same_answer false false h g = refl
+
+any_contained : {X : Type 0} (p : X → Bool) (xs ys : List X) → ((x : X) → Contains xs x → Contains ys x) → list_any p xs ≡ true → list_any p ys ≡ true
+any_contained p xs ys holds h =
+    let (k, x, below, is, passes) = Any-from_list_any p xs h in
+    let (j, within, at) = holds x (k, below, is) in
+    list_any-from_Any p ys (j, x, within, at, passes)
+
+pub any_once : {X : Type 0} {E : X → X → Bool} (e : IsEquivalence E) → ((x y : X) → E x y ≡ true → x ≡ y) → (p : X → Bool) (xs : List X) → list_any p (dedup E xs) ≡ list_any p xs
+any_once {E = E} e exact p xs =
+    same_answer (list_any p (dedup E xs)) (list_any p xs) (any_contained p (dedup E xs) xs (Contains-from_dedup E xs)) (any_contained p xs (dedup E xs) (Contains-dedup e exact xs))
+
+-- ---- a place of another mark at one of some lengths
+
+any_alike : {X : Type 0} (p q : X → Bool) → ((x : X) → p x ≡ q x) → (xs : List X) → list_any p xs ≡ list_any q xs
+any_alike p q alike [] = refl
+any_alike p q alike (x ∷ xs) = ap (λ (b : Bool). b || list_any p xs) (alike x) ∙ ap (λ (b : Bool). q x || b) (any_alike p q alike xs)
+
+four : (a b c d : Bool) → ((a || b) || (c || d)) ≡ ((a || c) || (b || d))
+four true b c d = refl
+four false true true d = refl
+four false true false d = refl
+four false false c d = refl
+
+any_or : {X : Type 0} (p q : X → Bool) (xs : List X) → list_any (λ x. p x || q x) xs ≡ (list_any p xs || list_any q xs)
+any_or p q [] = refl
+any_or p q (x ∷ xs) = ap (λ (b : Bool). (p x || q x) || b) (any_or p q xs) ∙ four (p x) (q x) (list_any p xs) (list_any q xs)
+
+turned : {X Y : Type 0} (f : X → Y → Bool) (xs : List X) (ys : List Y) → list_any (λ x. list_any (f x) ys) xs ≡ list_any (λ y. list_any (λ x. f x y) xs) ys
+turned f [] ys = sym (no_one ys)
+turned f (x ∷ xs) ys = ap (λ (b : Bool). list_any (f x) ys || b) (turned f xs ys) ∙ sym (any_or (f x) (λ y. list_any (λ x. f x y) xs) ys)
+
+one_other : (x : ℕ) (lengths own : List ℕ) (y : ℕ) → list_any (λ n. list_any (λ other. is_other n x other y) own) lengths ≡ (not (y == x) && share_one lengths own)
+one_other x lengths own y =
+    any_alike _ (λ n. not (y == x) && list_any (nat_eq n) own) (λ n. along (not (y == x)) (nat_eq n) own) lengths
+    ∙ along (not (y == x)) (λ n. list_any (nat_eq n) own) lengths
+
+others : (x : ℕ) (lengths : List ℕ) (own : ℕ → List ℕ) (ys : List ℕ)
+    → list_any (λ n. list_any (λ y. list_any (λ other. is_other n x other y) (own y)) ys) lengths ≡ list_any (λ y. not (y == x) && share_one lengths (own y)) ys
+others x lengths own ys =
+    turned (λ n y. list_any (λ other. is_other n x other y) (own y)) lengths ys
+    ∙ any_alike _ _ (λ y. one_other x lengths (own y) y) ys
+
+pub shared_by : (x : ℕ) (lengths : List Length) (found : Length → Bool) (cuts clamps : List ℕ) (cut_own clamp_own : ℕ → List ℕ)
+    → ((l : Length) → found l ≡ (list_any (λ y. list_any (λ other. is_other l.mm x other y) (cut_own y)) cuts || list_any (λ y. list_any (λ other. is_other l.mm x other y) (clamp_own y)) clamps))
+    → list_any found lengths ≡ (list_any (λ y. not (y == x) && share_one (map mm_of lengths) (cut_own y)) cuts || list_any (λ y. not (y == x) && share_one (map mm_of lengths) (clamp_own y)) clamps)
+shared_by x lengths found cuts clamps cut_own clamp_own is =
+    any_alike found (λ (l : Length). by_cut l.mm || by_clamp l.mm) is lengths
+    ∙ sym (any_read (λ n. by_cut n || by_clamp n) mm_of lengths)
+    ∙ any_or by_cut by_clamp (map mm_of lengths)
+    ∙ rw (others x (map mm_of lengths) cut_own cuts, others x (map mm_of lengths) clamp_own clamps) refl
+  where
+    by_cut : ℕ → Bool
+    by_cut n = list_any (λ y. list_any (λ other. is_other n x other y) (cut_own y)) cuts
+
+    by_clamp : ℕ → Bool
+    by_clamp n = list_any (λ y. list_any (λ other. is_other n x other y) (clamp_own y)) clamps

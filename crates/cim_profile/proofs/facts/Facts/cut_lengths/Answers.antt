@@ -1,0 +1,10 @@
+use Rattle.std.proofs.Common.{◌∙◌}
+use Rattle.std.proofs.lemmas.Result.{IfOk-weaker}
+use Rattle.cim_words.specs.declared.known_prop.KnownProp.TheVariants.{K12}
+use Rattle.cim_profile.specs.Model.{said}
+use Rattle.cim_profile.proofs.RowValues.{zero_read}
+use Rattle.cim_profile.proofs.facts.Facts.cut_lengths.Goals as goal
+
+pub returns : goal.returns
+returns c =
+    IfOk-weaker c.or_zero.result _ _ (λ lengths is. is ∙ zero_read c.at.result.now (said c.args.self.now.statements.now c.args.cut.number K12) (rw c.at.ensures (c.args.self.now.of_cut_lengths c.args.cut.number))) c.or_zero.ensures

@@ -1,0 +1,11 @@
+use Rattle.std.proofs.Common.{◌≡◌, map, take, false}
+use Rattle.std.specs.List.{list_any}
+use Rattle.cim_words.specs.declared.known_prop.KnownProp.TheVariants.{K9}
+use Rattle.cim_words.specs.declared.statement.Statement.{Statement}
+use Rattle.cim_profile.specs.Facts.{is_present_and, mm_of}
+use Rattle.cim_profile.specs.Model.{named_by}
+use Rattle.cim_profile.specs.Places.{lies_beyond}
+use Rattle.cim_profile.proofs.places.is_clamp_misplaced.Given as goal
+
+abbrev pub invariant-loop-statement : goal.invariant-loop-statement
+invariant-loop-statement l = list_any (λ (s : Statement). is_present_and (lies_beyond l.facts.statements.now (map mm_of l.lengths.items)) (named_by K9 s)) (take l.statement-index l.subject.statements.now) ≡ false

@@ -1,0 +1,11 @@
+use Rattle.std.proofs.Common.{◌≡◌, map, take, false}
+use Rattle.std.specs.List.{list_any}
+use Rattle.cim_words.specs.declared.known_prop.KnownProp.TheVariants.{K11}
+use Rattle.cim_words.specs.declared.statement.Statement.{Statement}
+use Rattle.cim_profile.specs.Facts.{is_present_and, mm_of}
+use Rattle.cim_profile.specs.Model.{named_by}
+use Rattle.cim_profile.specs.Places.{lies_wrongly}
+use Rattle.cim_profile.proofs.places.is_cut_misplaced.Given as goal
+
+abbrev pub invariant-loop-statement : goal.invariant-loop-statement
+invariant-loop-statement l = list_any (λ (s : Statement). is_present_and (lies_wrongly l.facts.statements.now l.subject.id.number (map mm_of l.lengths.items)) (named_by K11 s)) (take l.statement-index l.subject.statements.now) ≡ false

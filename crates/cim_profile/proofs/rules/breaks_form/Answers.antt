@@ -1,0 +1,9 @@
+use Rattle.std.proofs.Common.{rules}
+use Rattle.std.proofs.lemmas.Iterator.{YieldsList-from_slice}
+use Rattle.std.proofs.lemmas.Iterator.Search.{any_from_yields_List}
+use Rattle.cim_profile.specs.Rules.{states_wrongly}
+use Rattle.cim_profile.specs.declared.attributes.TheConstants.{VALUES}
+use Rattle.cim_profile.proofs.rules.breaks_form.Goals as goal
+
+pub returns : goal.returns
+returns c m is = any_from_yields_List (states_wrongly m c.args.subject.now.id.number) _ _ _ c.any.ensures.ran (YieldsList-from_slice VALUES cc) (λ x b q k. search (rules, is))

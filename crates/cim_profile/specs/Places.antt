@@ -1,0 +1,56 @@
+-- The places of cuts and clamps along their segments, and the steps of the rule on them.
+use Rattle.std.specs.Prelude.{ℕ, ◌≡◌, List, Bool, not, ◌&&◌, ◌||◌, ◌==◌, nat_lt, nat_eq}
+use Rattle.std.specs.List.{list_any}
+use Rattle.std.specs.Ordering.{nat_cmp, on, then_cmp}
+use Rattle.std.specs.declared.cmp.Ordering.{Ordering}
+use Rattle.cim_words.specs.declared.identifier.Id.{Id}
+use Rattle.cim_words.specs.declared.length.Length.{Length}
+use Rattle.cim_words.specs.declared.statement.Statement.{Statement}
+use Rattle.cim_profile.specs.Network.{stated_lengths, cut_lengths, clamp_lengths, cuts_of, clamps_of}
+use Rattle.cim_profile.specs.Rules.{is_beyond, shares_place}
+use Rattle.cim_profile.specs.declared.marks.Place.{Place}
+
+-- a mark with these lengths lies beyond a segment, and a cut may share a place there too
+abbrev pub lies_beyond : List Statement → List ℕ → ℕ → Bool
+lies_beyond m lengths s = is_beyond lengths (stated_lengths m s)
+
+abbrev pub lies_wrongly : List Statement → ℕ → List ℕ → ℕ → Bool
+lies_wrongly m x lengths s = is_beyond lengths (stated_lengths m s) || shares_place m x lengths s
+
+-- a mark of a segment at one of its lengths
+abbrev pub place_at : Id → Id → Length → Place
+place_at segment mark length = record { segment = segment; length = length; mark = mark }
+
+-- places stand in order by segment, then by length, then by mark
+abbrev pub place_order : Place → Place → Ordering
+place_order = then_cmp (on (λ (p : Place). p.segment.number) nat_cmp) (then_cmp (on (λ (p : Place). p.length.mm) nat_cmp) (on (λ (p : Place). p.mark.number) nat_cmp))
+
+-- whether a place stands before a length along a segment
+abbrev pub is_before : ℕ → ℕ → Place → Bool
+is_before s n p = nat_lt p.segment.number s || p.segment.number == s && nat_lt p.length.mm n
+
+-- whether a place is along a segment, and its length and mark pass a test
+abbrev pub is_at : ℕ → (ℕ → ℕ → Bool) → Place → Bool
+is_at s test p = p.segment.number == s && test p.length.mm p.mark.number
+
+-- the test of another mark at the same length
+abbrev pub is_other : ℕ → ℕ → ℕ → ℕ → Bool
+is_other n x other y = not (y == x) && nat_eq n other
+
+-- whether some cut of a segment passes a test at one of its lengths, and the same of a clamp
+abbrev pub any_cut : List Statement → ℕ → (ℕ → ℕ → Bool) → Bool
+any_cut m s test = list_any (λ y. list_any (λ n. test n y) (cut_lengths m y)) (cuts_of m s)
+
+abbrev pub any_clamp : List Statement → ℕ → (ℕ → ℕ → Bool) → Bool
+any_clamp m s test = list_any (λ y. list_any (λ n. test n y) (clamp_lengths m y)) (clamps_of m s)
+
+-- places hold all cuts, or all clamps, or both, at all their lengths and nothing else: whatever test of lengths and marks
+-- is taken, a place along a segment passes it exactly where such a mark of the segment does
+abbrev pub HoldsCuts : List Statement → List Place → Type 0
+HoldsCuts m places = (s : ℕ) (test : ℕ → ℕ → Bool) → list_any (is_at s test) places ≡ any_cut m s test
+
+abbrev pub HoldsClamps : List Statement → List Place → Type 0
+HoldsClamps m places = (s : ℕ) (test : ℕ → ℕ → Bool) → list_any (is_at s test) places ≡ any_clamp m s test
+
+abbrev pub HoldsPlaces : List Statement → List Place → Type 0
+HoldsPlaces m places = (s : ℕ) (test : ℕ → ℕ → Bool) → list_any (is_at s test) places ≡ (any_cut m s test || any_clamp m s test)

@@ -1,0 +1,49 @@
+-- The walks over the subjects of a model, one for each stage of the rules.
+use Rattle.std.specs.Prelude.{ℕ, ◌≡◌, ◌<◌, List, [], ◌∷◌, Bool, true, false, Option, Some, None, if◌then◌else◌, nat_lt, slice_index_or}
+use Rattle.std.specs.List.{prefix_len}
+use Rattle.cim_words.specs.declared.identifier.Id.{Id}
+use Rattle.cim_words.specs.declared.statement.Statement.{Statement}
+use Rattle.cim_profile.specs.Model.{is_about}
+use Rattle.cim_profile.specs.Rules.{breaks_type, breaks_once, breaks_owner, breaks_target, breaks_terminals, breaks_numbers, breaks_form, breaks_place, breaks_crowd, breaks_sides, IsAtMost}
+use Rattle.cim_profile.specs.declared.faults.Break.{Break}
+use Rattle.cim_profile.specs.declared.faults.Stage.{Stage}
+use Rattle.cim_profile.specs.declared.faults.Stage.TheVariants as stage
+
+-- how many statements at the front are about the subject of the first one
+abbrev pub run_of : List Statement → ℕ
+run_of [] = 0
+run_of (s ∷ rest) = prefix_len (is_about s.subject.number) (s ∷ rest)
+
+-- the fault so far, or that of a later subject where it is by an earlier rule
+abbrev pub lesser_of : Option Break → Option ℕ → Id → Option Break
+lesser_of least None subject = least
+lesser_of None (Some rule) subject = Some (record { rule = rule; subject = subject })
+lesser_of (Some found) (Some rule) subject = if nat_lt rule found.rule then Some (record { rule = rule; subject = subject }) else Some found
+
+-- the same by some rule of the later subject, or none, of which a fact holds
+abbrev pub IsLesserBy : (Option ℕ → Type 0) → Option Break → Id → Option Break → Type 0
+IsLesserBy IsRule least subject now = (rule : Option ℕ) × IsRule rule × (now ≡ lesser_of least rule subject)
+
+-- which rules of a stage a subject breaks, by number, and whether it breaks one of them; the others of the profile count as kept
+abbrev pub verdicts_in : Stage → List Statement → ℕ → List Bool
+verdicts_in stage.Repeats m x = false ∷ breaks_type m x ∷ breaks_once m x ∷ []
+verdicts_in stage.Rest m x =
+    false ∷ false ∷ false ∷ breaks_owner m x ∷ breaks_target m x ∷ breaks_terminals m x ∷ breaks_numbers m x ∷ breaks_form m x ∷ breaks_place m x
+    ∷ breaks_crowd m x ∷ breaks_sides m x ∷ []
+
+abbrev pub breaks_in : Stage → List Statement → ℕ → ℕ → Bool
+breaks_in stage m rule x = slice_index_or (verdicts_in stage m x) rule false
+
+-- the first of some rules that a subject breaks, or none, and the first of those of a stage
+abbrev pub IsFirst : (ℕ → ℕ → Bool) → ℕ → Option ℕ → Type 0
+IsFirst breaks x None = (rule : ℕ) → breaks rule x ≡ false
+IsFirst breaks x (Some first) = (breaks first x ≡ true) × ((rule : ℕ) → rule < first → breaks rule x ≡ false)
+
+abbrev pub IsFirstIn : Stage → List Statement → ℕ → Option ℕ → Type 0
+IsFirstIn stage m x rule = IsFirst (breaks_in stage m) x rule
+
+-- the least of the faults of some subjects by some rules, or none
+abbrev pub IsLeast : (ℕ → ℕ → Bool) → (ℕ → Bool) → Option Break → Type 0
+IsLeast breaks who None = (rule x : ℕ) → who x ≡ true → breaks rule x ≡ true → ⊥
+IsLeast breaks who (Some b) =
+    (who b.subject.number ≡ true) × (breaks b.rule b.subject.number ≡ true) × ((rule x : ℕ) → who x ≡ true → breaks rule x ≡ true → IsAtMost b.rule b.subject.number rule x)

@@ -1,0 +1,200 @@
+//! The least fault of a model.
+
+ghost use Rattle.std.specs.Prelude.{◌≡◌, IfOk};
+ghost use Rattle.statement_set.specs.Set.{IsOrdered};
+ghost use Rattle.cim_profile.specs.Model.{about, is_subject};
+ghost use Rattle.cim_profile.specs.Places.{HoldsPlaces};
+ghost use Rattle.cim_profile.specs.Rules.{IsFirstBreak};
+ghost use Rattle.cim_profile.specs.Subject.{IsSubjectOf};
+ghost use Rattle.cim_profile.specs.Walk.{IsFirstIn, IsLeast, IsLesserBy, breaks_in, lesser_of, run_of};
+ghost use Rattle.cim_profile.specs.declared.faults.Stage.TheVariants.{Repeats, Rest};
+
+use crate::crowds::{breaks_crowd, breaks_numbers, breaks_terminals};
+use crate::facts::Facts;
+use crate::marks::Places;
+use crate::places::breaks_place;
+use crate::rules::{
+    breaks_form, breaks_once, breaks_owner, breaks_sides, breaks_target, breaks_type,
+};
+use crate::subject::Subject;
+use cim_words::{Id, NoMemory, Statement};
+use statement_set::StatementSet;
+use std::alloc::Global;
+
+/// A fault of a model: a rule of the profile and a subject that breaks it.
+#[derive(Clone, Copy, Debug, PartialEq, Eq)]
+pub struct Break {
+    /// The rule's number, from 1 to 10.
+    pub rule: u8,
+    /// The subject at fault.
+    pub subject: Id,
+}
+
+/// The rules that one walk over the subjects looks at.
+///
+/// The rules of the first stage bound what a subject of the model's classes repeats, so the later rules are cheap where none of these is broken.
+#[derive(Clone, Copy, Drop)]
+enum Stage {
+    /// The rules 1 and 2, on what is stated more than once.
+    Repeats,
+    /// The rules 3 to 10.
+    Rest,
+}
+
+/// The least fault of a model by rule and then by subject, none where it breaks no rule of the profile.
+pub fn first_break(alloc: Global, set: &StatementSet) -> Result<Option<Break>, NoMemory>
+    ensures { IfOk result (IsFirstBreak set.now) }
+{
+    let statements = set.statements();
+    let facts = Facts::of(alloc, statements)?;
+    let unknown = Places::unknown(alloc);
+    if let Some(found) = least_of(alloc, &facts, &unknown, Stage::Repeats, statements)? {
+        return Ok(Some(found));
+    }
+    // Each cut and clamp now has one segment and one length.
+    let places = Places::of(alloc, &facts)?;
+    least_of(alloc, &facts, &places, Stage::Rest, statements)
+}
+
+/// The least fault by the rules of a stage, none where no subject breaks one of them.
+fn least_of(
+    alloc: Global,
+    facts: &Facts<'_>,
+    places: &Places,
+    stage: Stage,
+    statements: &[Statement],
+) -> Result<Option<Break>, NoMemory>
+    requires same { facts.now.statements.now ≡ statements.now }
+    requires ordered { IsOrdered statements.now }
+    requires places { stage ≡ Rest → HoldsPlaces facts.now.statements.now places.now }
+    ensures { IfOk result (IsLeast (breaks_in stage statements.now) (is_subject statements.now)) }
+{
+    let mut least = None;
+    let mut rest = statements;
+    while let [first, ..] = rest {
+        let (about, after) = rest.split_at(run_len(rest));
+        least = least_with(alloc, facts, places, stage, least, first.subject, about)?;
+        rest = after;
+    }
+    Ok(least)
+}
+
+/// How many statements at the front are about the first one's subject.
+fn run_len(statements: &[Statement]) -> usize
+    ensures { result ≡ run_of statements.now }
+{
+    match statements {
+        [first, ..] => statements
+            .iter()
+            .take_while(|statement| statement.subject == first.subject)
+            .count(),
+        [] => 0,
+    }
+}
+
+/// The fault so far, or that of a later subject with these statements if it breaks an earlier rule.
+fn least_with(
+    alloc: Global,
+    facts: &Facts<'_>,
+    places: &Places,
+    stage: Stage,
+    least: Option<Break>,
+    id: Id,
+    statements: &[Statement],
+) -> Result<Option<Break>, NoMemory>
+    requires statements { statements.now ≡ about facts.now.statements.now id.number }
+    requires places { stage ≡ Rest → HoldsPlaces facts.now.statements.now places.now }
+    ensures { IfOk result (IsLesserBy (IsFirstIn stage facts.now.statements.now id.number) least id) }
+{
+    let subject = Subject {
+        id,
+        statements,
+        types: facts.types_of(id),
+    };
+    Ok(lesser(
+        least,
+        first_rule(alloc, facts, places, stage, &subject)?,
+        id,
+    ))
+}
+
+/// The fault so far, or that of a later subject if it breaks an earlier rule.
+fn lesser(least: Option<Break>, rule: Option<u8>, subject: Id) -> Option<Break>
+    ensures { result ≡ lesser_of least rule subject }
+{
+    match (least, rule) {
+        (None, Some(rule)) => Some(Break { rule, subject }),
+        (Some(found), Some(rule)) if rule < found.rule => Some(Break { rule, subject }),
+        (found, _) => found,
+    }
+}
+
+/// The first rule of a stage that a subject breaks.
+fn first_rule(
+    alloc: Global,
+    facts: &Facts<'_>,
+    places: &Places,
+    stage: Stage,
+    subject: &Subject<'_>,
+) -> Result<Option<u8>, NoMemory>
+    requires subject { IsSubjectOf facts.now.statements.now subject.now }
+    requires places { stage ≡ Rest → HoldsPlaces facts.now.statements.now places.now }
+    ensures { IfOk result (IsFirstIn stage facts.now.statements.now subject.now.id.number) }
+{
+    match stage {
+        Stage::Repeats => first_of_repeats(alloc, facts, subject),
+        Stage::Rest => first_of_rest(alloc, facts, places, subject),
+    }
+}
+
+/// The first of the rules 1 and 2 that a subject breaks.
+fn first_of_repeats(
+    alloc: Global,
+    facts: &Facts<'_>,
+    subject: &Subject<'_>,
+) -> Result<Option<u8>, NoMemory>
+    requires { IsSubjectOf facts.now.statements.now subject.now }
+    ensures { IfOk result (IsFirstIn Repeats facts.now.statements.now subject.now.id.number) }
+{
+    let rule = if breaks_type(alloc, facts, subject)? {
+        1
+    } else if breaks_once(subject) {
+        2
+    } else {
+        return Ok(None);
+    };
+    Ok(Some(rule))
+}
+
+/// The first of the rules 3 to 10 that a subject breaks.
+fn first_of_rest(
+    alloc: Global,
+    facts: &Facts<'_>,
+    places: &Places,
+    subject: &Subject<'_>,
+) -> Result<Option<u8>, NoMemory>
+    requires subject { IsSubjectOf facts.now.statements.now subject.now }
+    requires places { HoldsPlaces facts.now.statements.now places.now }
+    ensures { IfOk result (IsFirstIn Rest facts.now.statements.now subject.now.id.number) }
+{
+    let rule = if breaks_owner(subject) {
+        3
+    } else if breaks_target(facts, subject) {
+        4
+    } else if breaks_terminals(alloc, facts, subject)? {
+        5
+    } else if breaks_numbers(alloc, facts, subject)? {
+        6
+    } else if breaks_form(subject) {
+        7
+    } else if breaks_place(alloc, facts, places, subject)? {
+        8
+    } else if breaks_crowd(alloc, facts, subject)? {
+        9
+    } else if breaks_sides(subject) {
+        10
+    } else {
+        return Ok(None);
+    };
+    Ok(Some(rule))
+}

@@ -1,0 +1,21 @@
+//! The profile of the model: which sets of statements are networks that this program takes.
+#![tactic(auto)]
+
+mod attributes;
+mod crowds;
+mod facts;
+mod faults;
+mod forms;
+mod kind;
+mod marks;
+mod places;
+mod rules;
+mod said;
+mod stated;
+mod subject;
+mod table;
+#[cfg(test)]
+mod tests;
+
+pub use cim_words::NoMemory;
+pub use faults::{Break, first_break};
