@@ -1,6 +1,5 @@
 pub mod AnswerLemmas
 pub mod AttachmentLemmas
-pub mod BaseLemmas
 pub mod ClassLemmas
 pub mod Gathering
 pub mod GraphLemmas
@@ -9,6 +8,7 @@ pub mod MarkLemmas
 pub mod Members
 pub mod NumberingLemmas
 pub mod OneAnswer
+pub mod OneBase
 pub mod OneTrace
 pub mod PointLemmas
 pub mod ReachLemmas

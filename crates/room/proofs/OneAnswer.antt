@@ -1,155 +1,191 @@
 -- The words and what the shelf tells have one answer.
-use Rattle.std.proofs.Common.{◌≡◌, ℕ, ◌+◌, List, [], ◌∷◌, ◌++◌, length, Some, IsTrue, true, false, codes, refl, sym, ap, subst, ◌∙◌, length-append, arith}
-use Rattle.std.specs.List.{flat_map, AllByRecursion}
-use Rattle.cim_words.specs.Held.{IsStatement}
+use Rattle.std.proofs.Common.{◌≡◌, ℕ, ◌⊎◌, inl, inr, List, [], ◌∷◌, length, Some, IsTrue, true, false, codes, refl, sym, ap, subst, ◌∙◌, ◌==◌}
 use Rattle.cim_words.specs.IdText.{plain_number}
 use Rattle.cim_words.specs.Phases.{phase_text}
-use Rattle.cim_words.specs.Written.{written, written_line, line_feed}
+use Rattle.cim_words.specs.declared.identifier.Id.{Id}
 use Rattle.cim_words.specs.declared.phases.PhaseSet.{PhaseSet}
 use Rattle.cim_words.specs.declared.statement.Statement.{Statement}
 use Rattle.cim_words.proofs.PhaseTexts.{phase_text-injective}
-use Rattle.nt_text.proofs.Cuts.{one_cut}
-use Rattle.nt_text.proofs.Free.{free_line}
-use Rattle.nt_text.proofs.OneLine.{one_line}
 use Rattle.nt_text.proofs.Readings.{some_is}
-use Rattle.room.specs.Base.{IsBase, IsPlainBase}
-use Rattle.room.specs.Run.{Answers, Asks, IsNoCommand, IsNoPlainBase, IsTraced, Reads, is_answer}
+use Rattle.room.specs.Base.{IsBase, RefusesBase}
+use Rattle.room.specs.Command.{IsCommand, IsCheckCommand, IsTraceCommand}
 use Rattle.room.specs.Network.{IsEquipment}
+use Rattle.room.specs.Run.{Answers, Asks, IsNoCommand, IsTraced, Reads, RefusesTask, Tells, is_answer}
+use Rattle.room.specs.Status.{status_line}
 use Rattle.room.specs.Trace.{IsTrace}
 use Rattle.room.specs.TraceText.{trace_text}
 use Rattle.room.specs.declared.status.Status.{Status}
 use Rattle.room.specs.declared.status.Status.TheVariants as status
-use Rattle.room.proofs.BaseLemmas.{first_line}
+use Rattle.room.specs.declared.task.Task.{Task}
+use Rattle.room.specs.declared.task.Task.TheVariants as task
+use Rattle.room.proofs.OneBase.{one_set, base_or_refused, one_refusal}
 use Rattle.room.proofs.OneTrace.{one_trace}
 
-not_first : (s : Statement) (more : List Statement) → [] ≡ flat_map written (s ∷ more) → ⊥
-not_first s more same =
-    let line : [] ≡ written_line s ++ (line_feed ∷ flat_map written more) = same ∙ first_line s more in
-    let sizes : 0 ≡ length (written_line s) + length (line_feed ∷ flat_map written more) = ap length line ∙ length-append _ _ in
-    omega arith
+-- words name one base and ask for one task
+same_trace : (a b : Id) (p q : PhaseSet) → a.number ≡ b.number → p ≡ q → task.Trace a p ≡ task.Trace b q
+same_trace a b p q numbers phases =
+    let ids : a ≡ b = ap (λ (n : ℕ). record { number = n }) numbers in
+    cc
 
-one_list : (a b : List Statement) → AllByRecursion IsStatement a → AllByRecursion IsStatement b → flat_map written a ≡ flat_map written b → a ≡ b
-one_list [] [] held held' same = refl
-one_list [] (t ∷ b) held held' same = absurd (not_first t b same)
-one_list (s ∷ a) [] held held' same = absurd (not_first s a (sym same))
-one_list (s ∷ a) (t ∷ b) held held' same =
-    let cut = one_cut line_feed (written_line s) (written_line t) (flat_map written a) (flat_map written b) (free_line s) (free_line t)
-    (sym (first_line s a) ∙ same ∙ first_line t b) in
-    let heads : s ≡ t = one_line s t held.0 held'.0 cut.0 in
-    let tails : a ≡ b = one_list a b held.1 held'.1 cut.1 in
-    let both : s ∷ a ≡ t ∷ b = cc in both
+two_or_four : (words : List (List ℕ)) (name other : List ℕ) (source : ℕ) (phases : PhaseSet) → IsCheckCommand words name → IsTraceCommand words other source phases → ⊥
+two_or_four words name other source phases check trace =
+    let same : true ≡ false = ap (λ (ws : List (List ℕ)). length ws == 2) (sym check.two_words ∙ trace.four_words) in
+    absurd cc
 
--- bytes are the base of one list of statements
-pub one_base : (bytes : List ℕ) (a b : List Statement) → IsBase bytes a → IsBase bytes b → a ≡ b
-one_base bytes a b base base' = one_list a b base.held base'.held (sym base.written_forms ∙ base'.written_forms)
-
--- words are one command
-pub record SameAsks (words : List (List ℕ)) (a b : Asks words) : Type 0 where
-  pub names : a.name ≡ b.name
-  pub sources : a.source ≡ b.source
-  pub phases : a.phases ≡ b.phases
-
-pub one_command : (words : List (List ℕ)) (a b : Asks words) → SameAsks words a b
-one_command words a b =
-    let p = a.command in
-    let q = b.command in
-    let same : codes "trace" ∷ a.name ∷ p.source_word ∷ phase_text a.phases ∷ [] ≡ codes "trace" ∷ b.name ∷ q.source_word ∷ phase_text b.phases ∷ [] =
+one_command : (words : List (List ℕ)) (name name' : List ℕ) (a b : Task) → IsCommand words name a → IsCommand words name' b → (name ≡ name') × (a ≡ b)
+one_command words name name' task.Check task.Check p q =
+    let same : codes "check" ∷ name ∷ [] ≡ codes "check" ∷ name' ∷ [] = sym p.two_words ∙ q.two_words in
+    let names : name ≡ name' = cc in
+    (names, refl)
+one_command words name name' task.Check (task.Trace source phases) p q = absurd (two_or_four words name name' source.number phases p q)
+one_command words name name' (task.Trace source phases) task.Check p q = absurd (two_or_four words name' name source.number phases q p)
+one_command words name name' (task.Trace source phases) (task.Trace source' phases') p q =
+    let same : codes "trace" ∷ name ∷ p.source_word ∷ phase_text phases ∷ [] ≡ codes "trace" ∷ name' ∷ q.source_word ∷ phase_text phases' ∷ [] =
     sym p.four_words ∙ q.four_words in
-    let texts : phase_text a.phases ≡ phase_text b.phases = cc in
+    let names : name ≡ name' = cc in
+    let texts : phase_text phases ≡ phase_text phases' = cc in
     let source_words : p.source_word ≡ q.source_word = cc in
-    record {
-      names = cc;
-      sources = some_is a.source b.source (sym p.identifier ∙ ap plain_number source_words ∙ q.identifier);
-      phases = phase_text-injective a.phases b.phases texts;
-    }
+    let sources : source.number ≡ source'.number = some_is source.number source'.number (sym p.identifier ∙ ap plain_number source_words ∙ q.identifier) in
+    (names, same_trace source source' phases phases' sources (phase_text-injective phases phases' texts))
 
--- what was read is one base
-pub record SameReads (content : List ℕ → List ℕ) (words : List (List ℕ)) (a b : Reads (λ name. Some (content name)) words) : Type 0 where
-  pub asks : SameAsks words a.asks b.asks
-  pub statements : a.statements ≡ b.statements
+-- a task tells one text of a set, or nothing for one reason
+one_text : (asked : Task) (set : List Statement) (x y : List ℕ) → Tells asked set x → Tells asked set y → x ≡ y
+one_text task.Check set x y a b = a ∙ sym b
+one_text (task.Trace source phases) set x y a b = a.is_text ∙ ap trace_text (one_trace set source.number phases a.rows b.rows a.trace b.trace) ∙ sym b.is_text
 
-one_read : (content : List ℕ → List ℕ) (words : List (List ℕ)) (a b : Reads (λ name. Some (content name)) words) → SameReads content words a b
-one_read content words a b =
-    let asks = one_command words a.asks b.asks in
-    let P : List ℕ → Type 0 = λ name. IsPlainBase (content name) a.statements in
-    let moved = subst P asks.names a.of_base in
-    record { asks = asks; statements = one_base (content b.asks.name) a.statements b.statements moved.base b.of_base.base }
+told_or_not : (asked : Task) (set : List Statement) (x : List ℕ) (s : Status) → IsTrue (is_answer s) → Tells asked set x → RefusesTask asked set s → ⊥
+told_or_not task.Check set x s is a none = none
+told_or_not (task.Trace source phases) set x status.Later is a none = none a.plain
+told_or_not (task.Trace source phases) set x status.Asked is a none = none.1 a.equipment
+told_or_not (task.Trace source phases) set x status.NoMemory is a none = let no : false ≡ true = is in absurd cc
+told_or_not (task.Trace source phases) set x status.Ok is a none = none
+told_or_not (task.Trace source phases) set x status.Usage is a none = none
+told_or_not (task.Trace source phases) set x status.ReadFault is a none = none
+told_or_not (task.Trace source phases) set x status.Limit is a none = none
+told_or_not (task.Trace source phases) set x (status.Document line why) is a none = none
+told_or_not (task.Trace source phases) set x (status.Profile rule subject) is a none = none
+told_or_not (task.Trace source phases) set x status.WriteFault is a none = none
 
-one_text : (content : List ℕ → List ℕ) (words : List (List ℕ)) (x y : List ℕ) → IsTraced (λ name. Some (content name)) words x → IsTraced (λ name. Some (content name)) words y → x ≡ y
-one_text content words x y a b =
-    let same = one_read content words a.reads b.reads in
-    let P : List Statement → Type 0 = λ statements. IsTrace statements a.reads.asks.source a.reads.asks.phases a.rows in
-    let Q : ℕ → Type 0 = λ source. IsTrace b.reads.statements source a.reads.asks.phases a.rows in
-    let R : PhaseSet → Type 0 = λ phases. IsTrace b.reads.statements b.reads.asks.source phases a.rows in
-    let moved = subst R same.asks.phases (subst Q same.asks.sources (subst P same.statements a.trace)) in
-    a.is_text ∙ ap trace_text (one_trace b.reads.statements b.reads.asks.source b.reads.asks.phases a.rows b.rows moved b.trace) ∙ sym b.is_text
+one_reason : (asked : Task) (set : List Statement) (s t : Status) → IsTrue (is_answer s) → IsTrue (is_answer t) → RefusesTask asked set s → RefusesTask asked set t → s ≡ t
+one_reason task.Check set s t is is' a b = absurd a
+one_reason (task.Trace source phases) set status.Later status.Later is is' a b = refl
+one_reason (task.Trace source phases) set status.Later status.Asked is is' a b = absurd (a b.0)
+one_reason (task.Trace source phases) set status.Asked status.Later is is' a b = absurd (b a.0)
+one_reason (task.Trace source phases) set status.Asked status.Asked is is' a b = refl
+one_reason (task.Trace source phases) set status.NoMemory t is is' a b = let no : false ≡ true = is in absurd cc
+one_reason (task.Trace source phases) set s status.NoMemory is is' a b = let no : false ≡ true = is' in absurd cc
+one_reason (task.Trace source phases) set status.Ok t is is' a b = absurd a
+one_reason (task.Trace source phases) set status.Usage t is is' a b = absurd a
+one_reason (task.Trace source phases) set status.ReadFault t is is' a b = absurd a
+one_reason (task.Trace source phases) set status.Limit t is is' a b = absurd a
+one_reason (task.Trace source phases) set (status.Document line why) t is is' a b = absurd a
+one_reason (task.Trace source phases) set (status.Profile rule subject) t is is' a b = absurd a
+one_reason (task.Trace source phases) set status.WriteFault t is is' a b = absurd a
+one_reason (task.Trace source phases) set s status.Ok is is' a b = absurd b
+one_reason (task.Trace source phases) set s status.Usage is is' a b = absurd b
+one_reason (task.Trace source phases) set s status.ReadFault is is' a b = absurd b
+one_reason (task.Trace source phases) set s status.Limit is is' a b = absurd b
+one_reason (task.Trace source phases) set s (status.Document line why) is is' a b = absurd b
+one_reason (task.Trace source phases) set s (status.Profile rule subject) is is' a b = absurd b
+one_reason (task.Trace source phases) set s status.WriteFault is is' a b = absurd b
 
-read_or_not : (content : List ℕ → List ℕ) (words : List (List ℕ)) (a : Asks words) (b : Reads (λ name. Some (content name)) words) → IsNoPlainBase (content a.name) → ⊥
-read_or_not content words a b none =
-    let same = one_command words b.asks a in
-    let P : List ℕ → Type 0 = λ name. IsPlainBase (content name) b.statements in
-    none b.statements (subst P same.names b.of_base)
+-- what comes of bytes and a task: a text, bytes that are no base, or a base of which the task tells nothing
+record Told (bytes : List ℕ) (asked : Task) (s : Status) (x : List ℕ) : Type 0 where
+  set : List Statement
+  base : IsBase bytes set
+  tells : Tells asked set x
+  well : s ≡ status.Ok
 
-equipment_or_not : (content : List ℕ → List ℕ) (words : List (List ℕ)) (a b : Reads (λ name. Some (content name)) words)
-    → IsEquipment a.statements a.asks.source → (IsEquipment b.statements b.asks.source → ⊥) → ⊥
-equipment_or_not content words a b is none =
-    let same = one_read content words a b in
-    let P : List Statement → Type 0 = λ statements. IsEquipment statements a.asks.source in
-    let Q : ℕ → Type 0 = λ source. IsEquipment b.statements source in
-    none (subst Q same.asks.sources (subst P same.statements is))
+record Refused (bytes : List ℕ) (s : Status) (x : List ℕ) : Type 0 where
+  refuses : RefusesBase bytes s
+  line : x ≡ status_line s
+
+record Untold (bytes : List ℕ) (asked : Task) (s : Status) (x : List ℕ) : Type 0 where
+  set : List Statement
+  base : IsBase bytes set
+  refuses : RefusesTask asked set s
+  line : x ≡ status_line s
+
+abbrev Outcome : List ℕ → Task → Status → List ℕ → Type 0
+Outcome bytes asked s x = Told bytes asked s x ⊎ (Refused bytes s x ⊎ Untold bytes asked s x)
+
+same_line : (s t : Status) (x y : List ℕ) → s ≡ t → x ≡ status_line s → y ≡ status_line t → (s ≡ t) × (x ≡ y)
+same_line s t x y same a b = (same, a ∙ ap status_line same ∙ sym b)
+
+two_told : (bytes : List ℕ) (asked : Task) (s t : Status) (x y : List ℕ) → Told bytes asked s x → Told bytes asked t y → (s ≡ t) × (x ≡ y)
+two_told bytes asked s t x y a b =
+    let same : a.set ≡ b.set = one_set bytes a.set b.set a.base.read b.base.read in
+    let P : List Statement → Type 0 = λ set. Tells asked set x in
+    (a.well ∙ sym b.well, one_text asked b.set x y (subst P same a.tells) b.tells)
+
+told_or_untold : (bytes : List ℕ) (asked : Task) (s t : Status) (x y : List ℕ) → IsTrue (is_answer t) → Told bytes asked s x → Untold bytes asked t y → ⊥
+told_or_untold bytes asked s t x y is a b =
+    let same : a.set ≡ b.set = one_set bytes a.set b.set a.base.read b.base.read in
+    let P : List Statement → Type 0 = λ set. Tells asked set x in
+    told_or_not asked b.set x t is (subst P same a.tells) b.refuses
+
+two_untold : (bytes : List ℕ) (asked : Task) (s t : Status) (x y : List ℕ) → IsTrue (is_answer s) → IsTrue (is_answer t)
+    → Untold bytes asked s x → Untold bytes asked t y → (s ≡ t) × (x ≡ y)
+two_untold bytes asked s t x y is is' a b =
+    let same : a.set ≡ b.set = one_set bytes a.set b.set a.base.read b.base.read in
+    let P : List Statement → Type 0 = λ set. RefusesTask asked set s in
+    same_line s t x y (one_reason asked b.set s t is is' (subst P same a.refuses) b.refuses) a.line b.line
+
+one_outcome : (bytes : List ℕ) (asked : Task) (s t : Status) (x y : List ℕ) → IsTrue (is_answer s) → IsTrue (is_answer t)
+    → Outcome bytes asked s x → Outcome bytes asked t y → (s ≡ t) × (x ≡ y)
+one_outcome bytes asked s t x y is is' (inl a) (inl b) = two_told bytes asked s t x y a b
+one_outcome bytes asked s t x y is is' (inl a) (inr (inl b)) = absurd (base_or_refused bytes a.set t is' a.base b.refuses)
+one_outcome bytes asked s t x y is is' (inl a) (inr (inr b)) = absurd (told_or_untold bytes asked s t x y is' a b)
+one_outcome bytes asked s t x y is is' (inr (inl a)) (inl b) = absurd (base_or_refused bytes b.set s is b.base a.refuses)
+one_outcome bytes asked s t x y is is' (inr (inl a)) (inr (inl b)) = same_line s t x y (one_refusal bytes s t is is' a.refuses b.refuses) a.line b.line
+one_outcome bytes asked s t x y is is' (inr (inl a)) (inr (inr b)) = absurd (base_or_refused bytes b.set s is b.base a.refuses)
+one_outcome bytes asked s t x y is is' (inr (inr a)) (inl b) = absurd (told_or_untold bytes asked t s y x is b a)
+one_outcome bytes asked s t x y is is' (inr (inr a)) (inr (inl b)) = absurd (base_or_refused bytes a.set t is' a.base b.refuses)
+one_outcome bytes asked s t x y is is' (inr (inr a)) (inr (inr b)) = two_untold bytes asked s t x y is is' a b
+
+-- an answer is that words are no command, or comes of a base and a task
+record IsUsage (words : List (List ℕ)) (s : Status) (x : List ℕ) : Type 0 where
+  none : IsNoCommand words
+  usage : s ≡ status.Usage
+  line : x ≡ status_line status.Usage
+
+record IsOutcome (content : List ℕ → List ℕ) (words : List (List ℕ)) (s : Status) (x : List ℕ) : Type 0 where
+  asks : Asks words
+  outcome : Outcome (content asks.name) asks.asked s x
+
+abbrev Found : (List ℕ → List ℕ) → List (List ℕ) → Status → List ℕ → Type 0
+Found content words s x = IsUsage words s x ⊎ IsOutcome content words s x
+
+found : (content : List ℕ → List ℕ) (words : List (List ℕ)) (s : Status) (x : List ℕ) → IsTrue (is_answer s)
+    → Answers (λ name. Some (content name)) words s x → Found content words s x
+found content words status.Ok x is a = inr (record { asks = a.0.asks; outcome = inl (record { set = a.0.set; base = a.0.of_base; tells = a.1; well = refl }) })
+found content words status.Usage x is a = inl (record { none = a.0; usage = refl; line = a.1 })
+found content words status.Limit x is a = inr (record { asks = a.0.0; outcome = inr (inl (record { refuses = a.0.1; line = a.1 })) })
+found content words (status.Document line why) x is a = inr (record { asks = a.0.0; outcome = inr (inl (record { refuses = a.0.1; line = a.1 })) })
+found content words (status.Profile rule subject) x is a = inr (record { asks = a.0.0; outcome = inr (inl (record { refuses = a.0.1; line = a.1 })) })
+found content words status.Later x is a =
+    inr (record { asks = a.0.0.asks; outcome = inr (inr (record { set = a.0.0.set; base = a.0.0.of_base; refuses = a.0.1; line = a.1 })) })
+found content words status.Asked x is a =
+    inr (record { asks = a.0.0.asks; outcome = inr (inr (record { set = a.0.0.set; base = a.0.0.of_base; refuses = a.0.1; line = a.1 })) })
+found content words status.ReadFault x is a = let no : false ≡ true = is in absurd cc
+found content words status.WriteFault x is a = let no : false ≡ true = is in absurd cc
+found content words status.NoMemory x is a = let no : false ≡ true = is in absurd cc
 
 no_command : (words : List (List ℕ)) → IsNoCommand words → Asks words → ⊥
-no_command words none asks = none asks.name asks.source asks.phases asks.command
+no_command words none asks = none asks.name asks.asked asks.command
+
+two_found : (content : List ℕ → List ℕ) (words : List (List ℕ)) (s t : Status) (x y : List ℕ) → IsTrue (is_answer s) → IsTrue (is_answer t)
+    → Found content words s x → Found content words t y → (s ≡ t) × (x ≡ y)
+two_found content words s t x y is is' (inl a) (inl b) = (a.usage ∙ sym b.usage, a.line ∙ sym b.line)
+two_found content words s t x y is is' (inl a) (inr b) = absurd (no_command words a.none b.asks)
+two_found content words s t x y is is' (inr a) (inl b) = absurd (no_command words b.none a.asks)
+two_found content words s t x y is is' (inr a) (inr b) =
+    let same = one_command words a.asks.name b.asks.name a.asks.asked b.asks.asked a.asks.command b.asks.command in
+    let P : List ℕ → Type 0 = λ name. Outcome (content name) a.asks.asked s x in
+    let Q : Task → Type 0 = λ asked. Outcome (content b.asks.name) asked s x in
+    one_outcome (content b.asks.name) b.asks.asked s t x y is is' (subst Q same.1 (subst P same.0 a.outcome)) b.outcome
 
 -- what the words ask for, and what the shelf tells of it, have one status and one text
 pub one_answer : (content : List ℕ → List ℕ) (words : List (List ℕ)) (a b : Status) (x y : List ℕ) → IsTrue (is_answer a) → IsTrue (is_answer b)
     → Answers (λ name. Some (content name)) words a x → Answers (λ name. Some (content name)) words b y → (a ≡ b) × (x ≡ y)
-one_answer content words status.Ok status.Ok x y is is' p q = (refl, one_text content words x y p q)
-one_answer content words status.Ok status.Usage x y is is' p q = absurd (no_command words q.0 p.reads.asks)
-one_answer content words status.Ok status.ReadFault x y is is' p q = absurd (let no : false ≡ true = is' in cc)
-one_answer content words status.Ok status.Later x y is is' p q = absurd (read_or_not content words q.0.0 p.reads q.0.1)
-one_answer content words status.Ok status.Asked x y is is' p q = absurd (equipment_or_not content words p.reads q.0.0 p.equipment q.0.1)
-one_answer content words status.Ok status.WriteFault x y is is' p q = absurd (let no : false ≡ true = is' in cc)
-one_answer content words status.Ok status.NoMemory x y is is' p q = absurd (let no : false ≡ true = is' in cc)
-one_answer content words status.Usage status.Ok x y is is' p q = absurd (no_command words p.0 q.reads.asks)
-one_answer content words status.Usage status.Usage x y is is' p q = (refl, p.1 ∙ sym q.1)
-one_answer content words status.Usage status.ReadFault x y is is' p q = absurd (let no : false ≡ true = is' in cc)
-one_answer content words status.Usage status.Later x y is is' p q = absurd (no_command words p.0 q.0.0)
-one_answer content words status.Usage status.Asked x y is is' p q = absurd (no_command words p.0 q.0.0.asks)
-one_answer content words status.Usage status.WriteFault x y is is' p q = absurd (let no : false ≡ true = is' in cc)
-one_answer content words status.Usage status.NoMemory x y is is' p q = absurd (let no : false ≡ true = is' in cc)
-one_answer content words status.ReadFault status.Ok x y is is' p q = absurd (let no : false ≡ true = is in cc)
-one_answer content words status.ReadFault status.Usage x y is is' p q = absurd (let no : false ≡ true = is in cc)
-one_answer content words status.ReadFault status.ReadFault x y is is' p q = absurd (let no : false ≡ true = is in cc)
-one_answer content words status.ReadFault status.Later x y is is' p q = absurd (let no : false ≡ true = is in cc)
-one_answer content words status.ReadFault status.Asked x y is is' p q = absurd (let no : false ≡ true = is in cc)
-one_answer content words status.ReadFault status.WriteFault x y is is' p q = absurd (let no : false ≡ true = is in cc)
-one_answer content words status.ReadFault status.NoMemory x y is is' p q = absurd (let no : false ≡ true = is in cc)
-one_answer content words status.Later status.Ok x y is is' p q = absurd (read_or_not content words p.0.0 q.reads p.0.1)
-one_answer content words status.Later status.Usage x y is is' p q = absurd (no_command words q.0 p.0.0)
-one_answer content words status.Later status.ReadFault x y is is' p q = absurd (let no : false ≡ true = is' in cc)
-one_answer content words status.Later status.Later x y is is' p q = (refl, p.1 ∙ sym q.1)
-one_answer content words status.Later status.Asked x y is is' p q = absurd (read_or_not content words p.0.0 q.0.0 p.0.1)
-one_answer content words status.Later status.WriteFault x y is is' p q = absurd (let no : false ≡ true = is' in cc)
-one_answer content words status.Later status.NoMemory x y is is' p q = absurd (let no : false ≡ true = is' in cc)
-one_answer content words status.Asked status.Ok x y is is' p q = absurd (equipment_or_not content words q.reads p.0.0 q.equipment p.0.1)
-one_answer content words status.Asked status.Usage x y is is' p q = absurd (no_command words q.0 p.0.0.asks)
-one_answer content words status.Asked status.ReadFault x y is is' p q = absurd (let no : false ≡ true = is' in cc)
-one_answer content words status.Asked status.Later x y is is' p q = absurd (read_or_not content words q.0.0 p.0.0 q.0.1)
-one_answer content words status.Asked status.Asked x y is is' p q = (refl, p.1 ∙ sym q.1)
-one_answer content words status.Asked status.WriteFault x y is is' p q = absurd (let no : false ≡ true = is' in cc)
-one_answer content words status.Asked status.NoMemory x y is is' p q = absurd (let no : false ≡ true = is' in cc)
-one_answer content words status.WriteFault status.Ok x y is is' p q = absurd (let no : false ≡ true = is in cc)
-one_answer content words status.WriteFault status.Usage x y is is' p q = absurd (let no : false ≡ true = is in cc)
-one_answer content words status.WriteFault status.ReadFault x y is is' p q = absurd (let no : false ≡ true = is in cc)
-one_answer content words status.WriteFault status.Later x y is is' p q = absurd (let no : false ≡ true = is in cc)
-one_answer content words status.WriteFault status.Asked x y is is' p q = absurd (let no : false ≡ true = is in cc)
-one_answer content words status.WriteFault status.WriteFault x y is is' p q = absurd (let no : false ≡ true = is in cc)
-one_answer content words status.WriteFault status.NoMemory x y is is' p q = absurd (let no : false ≡ true = is in cc)
-one_answer content words status.NoMemory status.Ok x y is is' p q = absurd (let no : false ≡ true = is in cc)
-one_answer content words status.NoMemory status.Usage x y is is' p q = absurd (let no : false ≡ true = is in cc)
-one_answer content words status.NoMemory status.ReadFault x y is is' p q = absurd (let no : false ≡ true = is in cc)
-one_answer content words status.NoMemory status.Later x y is is' p q = absurd (let no : false ≡ true = is in cc)
-one_answer content words status.NoMemory status.Asked x y is is' p q = absurd (let no : false ≡ true = is in cc)
-one_answer content words status.NoMemory status.WriteFault x y is is' p q = absurd (let no : false ≡ true = is in cc)
-one_answer content words status.NoMemory status.NoMemory x y is is' p q = absurd (let no : false ≡ true = is in cc)
+one_answer content words a b x y is is' p q = two_found content words a b x y is is' (found content words a x is p) (found content words b y is' q)

@@ -1,75 +1,49 @@
--- A base: statements in their written forms, one after another, with a line feed behind each.
-use Rattle.std.specs.Prelude.{ℕ, ◌≡◌, ◌≤◌, List, length, Bool, true, false, codes, bytes_eq}
-use Rattle.std.specs.List.{flat_map, AllByRecursion, AllPass}
-use Rattle.cim_words.specs.Class.{class_of}
-use Rattle.cim_words.specs.Held.{IsStatement}
-use Rattle.cim_words.specs.Written.{written}
-use Rattle.cim_words.specs.declared.class.Class.{Class}
-use Rattle.cim_words.specs.declared.class.Class.TheVariants as class
-use Rattle.cim_words.specs.declared.known_prop.KnownProp.{KnownProp}
-use Rattle.cim_words.specs.declared.known_prop.KnownProp.TheVariants.{K1, K2, K3, K5, K6, K8}
-use Rattle.cim_words.specs.declared.object.Object.{Object}
-use Rattle.cim_words.specs.declared.object.Object.TheVariants as object
-use Rattle.cim_words.specs.declared.prop.Prop.{Prop}
-use Rattle.cim_words.specs.declared.prop.Prop.TheVariants as prop
+-- A base: a document of statements, as a set that breaks no rule of the profile; and why bytes are none.
+use Rattle.std.specs.Prelude.{ℕ, ◌≤◌, ◌<◌, ◌⊎◌, List, length, Contains, Some, None}
 use Rattle.cim_words.specs.declared.statement.Statement.{Statement}
-
--- the bytes are the written forms of these statements
-pub record IsBase (bytes : List ℕ) (statements : List Statement) : Type 0 where
-  pub held : AllByRecursion IsStatement statements
-  pub written_forms : bytes ≡ flat_map written statements
-
--- a class of the plain network
-abbrev pub is_plain_class : Class → Bool
-is_plain_class class.ConnectivityNode = true
-is_plain_class class.EnergySource = true
-is_plain_class class.EnergyConsumer = true
-is_plain_class class.Breaker = true
-is_plain_class class.ACLineSegment = true
-is_plain_class class.Terminal = true
-is_plain_class class.Other = true
-is_plain_class _ = false
-
-abbrev pub is_plain_type : Object → Bool
-is_plain_type (object.Name name) = is_plain_class (class_of name)
-is_plain_type (object.Id id) = false
-is_plain_type (object.Text text) = false
-
-abbrev pub is_id : Object → Bool
-is_id (object.Id id) = true
-is_id (object.Name name) = false
-is_id (object.Text text) = false
-
-abbrev pub is_false_text : Object → Bool
-is_false_text (object.Text text) = bytes_eq text (codes "false")
-is_false_text (object.Id id) = false
-is_false_text (object.Name name) = false
-
--- What a known property may say in a plain base: a class of the plain network; an identifier as the equipment or the node
--- of a terminal; anything as a sequence number or a length; that a switch is not normally open.
-abbrev pub is_plain_known : KnownProp → Object → Bool
-is_plain_known K1 o = is_plain_type o
-is_plain_known K2 o = is_id o
-is_plain_known K3 o = is_id o
-is_plain_known K5 o = true
-is_plain_known K8 o = true
-is_plain_known K6 o = is_false_text o
-is_plain_known _ o = false
-
--- a statement is plain where its property has no meaning here, or says what it may in a plain base
-abbrev pub is_plain_said : Prop → Object → Bool
-is_plain_said (prop.Known known) o = is_plain_known known o
-is_plain_said (prop.Other text) o = true
-
-abbrev pub is_plain : Statement → Bool
-is_plain s = is_plain_said s.prop s.object
+use Rattle.cim_profile.specs.Rules.{IsFirstBreak}
+use Rattle.nt_text.specs.declared.refusal.LineRefusal.{LineRefusal}
+use Rattle.nt_text.specs.Document.{IsDocument, IsBadDocument}
+use Rattle.room.specs.declared.status.Status.{Status}
+use Rattle.room.specs.declared.status.Status.TheVariants as status
+use Rattle.statement_set.specs.Set.{IsSetOf, most_statements}
 
 -- the most bytes that a base may have
 abbrev pub base_limit : ℕ
 base_limit = 268435456
 
--- the bytes are a plain base of these statements, and no more than a base may have
-pub record IsPlainBase (bytes : List ℕ) (statements : List Statement) : Type 0 where
+-- the bytes are a document, and this is the set of its statements
+pub record IsRead (bytes : List ℕ) (set : List Statement) : Type 0 where
   pub fits : length bytes ≤ base_limit
-  pub base : IsBase bytes statements
-  pub plain : AllPass is_plain statements
+  pub statements : List Statement
+  pub document : IsDocument bytes statements
+  pub collected : IsSetOf (Contains statements) set
+
+-- the bytes are a base with this set of statements: these are not too many, and break no rule of the profile
+pub record IsBase (bytes : List ℕ) (set : List Statement) : Type 0 where
+  pub read : IsRead bytes set
+  pub small : length set ≤ most_statements
+  pub sound : IsFirstBreak set None
+
+-- a set within the limit breaks the profile, and this is its least fault
+pub record IsUnsound (bytes : List ℕ) (rule subject : ℕ) : Type 0 where
+  pub set : List Statement
+  pub read : IsRead bytes set
+  pub small : length set ≤ most_statements
+  pub first : IsFirstBreak set (Some (record { rule = rule; subject = record { number = subject } }))
+
+-- a document has too many different statements
+abbrev pub HasTooMany : List ℕ → Type 0
+HasTooMany bytes = (set : List Statement) × IsRead bytes set × (most_statements < length set)
+
+-- a document has a bad line, and this is the first
+abbrev pub HasBadLine : List ℕ → ℕ → LineRefusal → Type 0
+HasBadLine bytes line why = (length bytes ≤ base_limit) × ((found : List Statement) × IsBadDocument bytes line why found)
+
+-- Why bytes are no base: they are too many; a line of them is bad; their statements are too many; or these break the profile.
+abbrev pub RefusesBase : List ℕ → Status → Type 0
+RefusesBase bytes status.Limit = (base_limit < length bytes) ⊎ HasTooMany bytes
+RefusesBase bytes (status.Document line why) = HasBadLine bytes line why
+RefusesBase bytes (status.Profile rule subject) = IsUnsound bytes rule subject.number
+RefusesBase bytes status.NoMemory = Unit {0}
+RefusesBase bytes _ = ⊥

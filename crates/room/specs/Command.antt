@@ -3,6 +3,8 @@ use Rattle.std.specs.Prelude.{ℕ, ◌≡◌, ◌≢◌, List, [], ◌∷◌, So
 use Rattle.cim_words.specs.IdText.{plain_number}
 use Rattle.cim_words.specs.Phases.{phase_text, has_no_phase}
 use Rattle.cim_words.specs.declared.phases.PhaseSet.{PhaseSet}
+use Rattle.room.specs.declared.task.Task.{Task}
+use Rattle.room.specs.declared.task.Task.TheVariants as task
 
 -- a file is named by a word that is not empty and does not begin with `-`
 abbrev pub IsFileName : List ℕ → Type 0
@@ -16,3 +18,13 @@ pub record IsTraceCommand (words : List (List ℕ)) (name : List ℕ) (source : 
   pub file : IsFileName name
   pub identifier : plain_number source_word ≡ Some source
   pub some_phase : has_no_phase phases ≡ false
+
+-- the words are `check BASE`: a file name
+pub record IsCheckCommand (words : List (List ℕ)) (name : List ℕ) : Type 0 where
+  pub two_words : words ≡ codes "check" ∷ name ∷ []
+  pub file : IsFileName name
+
+-- the words ask for a task over a base
+abbrev pub IsCommand : List (List ℕ) → List ℕ → Task → Type 0
+IsCommand words name task.Check = IsCheckCommand words name
+IsCommand words name (task.Trace source phases) = IsTraceCommand words name source.number phases

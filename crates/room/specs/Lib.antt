@@ -1,5 +1,6 @@
 pub mod Attachment
 pub mod Base
+pub mod CheckText
 pub mod Command
 pub mod Edges
 pub mod Gather
@@ -7,7 +8,9 @@ pub mod Graph
 pub mod Marks
 pub mod Network
 pub mod Numbering
+pub mod Plain
 pub mod Reach
+pub mod RefusalLine
 pub mod Rows
 pub mod Run
 pub mod Said

@@ -1,76 +1,101 @@
 -- What the program answers: a status and a text, by the words of its command and by what the shelf tells.
-use Rattle.std.specs.Prelude.{ℕ, ◌≡◌, ◌⊎◌, List, [], Option, IfSome, Bool, true, false, Result, Ok, Err}
+use Rattle.std.specs.Prelude.{ℕ, ◌≡◌, ◌⊎◌, List, [], length, Option, IfSome, Bool, true, false, Result, Ok, Err}
 use Rattle.cim_words.specs.declared.phases.PhaseSet.{PhaseSet}
 use Rattle.cim_words.specs.declared.statement.Statement.{Statement}
 use Rattle.grid_out.specs.declared.reading.ShelfFault.{ShelfFault}
 use Rattle.grid_out.specs.declared.reading.ShelfFault.TheVariants as fault
 use Rattle.grid_out.specs.Faults.{Rose}
 use Rattle.grid_out.specs.Sink.{Gains, GainsPrefix}
+use Rattle.nt_text.specs.declared.refusal.NtFault.{NtFault}
+use Rattle.nt_text.specs.declared.refusal.NtFault.TheVariants as nt_fault
+use Rattle.statement_set.specs.declared.refusal.SetRefusal.{SetRefusal}
+use Rattle.statement_set.specs.declared.refusal.SetRefusal.TheVariants as set_refusal
 use Rattle.room.specs.declared.network.Row.{Row}
 use Rattle.room.specs.declared.status.Status.{Status}
 use Rattle.room.specs.declared.status.Status.TheVariants as status
-use Rattle.room.specs.Base.{IsPlainBase}
-use Rattle.room.specs.Command.{IsTraceCommand}
+use Rattle.room.specs.declared.task.Task.{Task}
+use Rattle.room.specs.declared.task.Task.TheVariants as task
+use Rattle.room.specs.Base.{IsBase, RefusesBase}
+use Rattle.room.specs.CheckText.{check_text}
+use Rattle.room.specs.Command.{IsCommand}
 use Rattle.room.specs.Network.{IsEquipment}
+use Rattle.room.specs.Plain.{IsPlain}
 use Rattle.room.specs.Status.{status_line}
 use Rattle.room.specs.Trace.{IsTrace}
 use Rattle.room.specs.TraceText.{trace_text}
 
 -- the words are no command of this program
 abbrev pub IsNoCommand : List (List ℕ) → Type 0
-IsNoCommand words = (name : List ℕ) (source : ℕ) (phases : PhaseSet) → IsTraceCommand words name source phases → ⊥
+IsNoCommand words = (name : List ℕ) (asked : Task) → IsCommand words name asked → ⊥
 
--- the bytes are the plain base of no statements
-abbrev pub IsNoPlainBase : List ℕ → Type 0
-IsNoPlainBase bytes = (statements : List Statement) → IsPlainBase bytes statements → ⊥
-
--- the text is the trace of the plain base that the bytes are
-pub record TracesBytes (bytes : List ℕ) (source : ℕ) (phases : PhaseSet) (text : List ℕ) : Type 0 where
-  pub statements : List Statement
-  pub of_base : IsPlainBase bytes statements
-  pub equipment : IsEquipment statements source
-  pub rows : List Row
-  pub trace : IsTrace statements source phases rows
-  pub is_text : text ≡ trace_text rows
-
--- why the bytes have no such trace
-abbrev pub RefusesBytes : List ℕ → ℕ → Status → Type 0
-RefusesBytes bytes source status.Later = IsNoPlainBase bytes
-RefusesBytes bytes source status.Asked = (statements : List Statement) × IsPlainBase bytes statements × (IsEquipment statements source → ⊥)
-RefusesBytes bytes source status.NoMemory = Unit {0}
-RefusesBytes bytes source _ = ⊥
-
--- a trace was asked for, of a base, from a source and in some phases
+-- a task was asked for, over a base
 pub record Asks (words : List (List ℕ)) : Type 0 where
   pub name : List ℕ
-  pub source : ℕ
-  pub phases : PhaseSet
-  pub command : IsTraceCommand words name source phases
+  pub asked : Task
+  pub command : IsCommand words name asked
 
 -- the base that was asked for was read: it is what the shelf tells of its name, where the shelf tells it
 pub record Reads (told : List ℕ → Option (List ℕ)) (words : List (List ℕ)) : Type 0 where
   pub asks : Asks words
-  pub statements : List Statement
-  pub of_base : IfSome (told asks.name) (λ bytes. IsPlainBase bytes statements)
+  pub set : List Statement
+  pub of_base : IfSome (told asks.name) (λ bytes. IsBase bytes set)
 
--- the text is the trace of the base that was read
-pub record IsTraced (told : List ℕ → Option (List ℕ)) (words : List (List ℕ)) (text : List ℕ) : Type 0 where
-  pub reads : Reads told words
-  pub equipment : IsEquipment reads.statements reads.asks.source
+-- the text is the trace of a plain network from a piece of its equipment
+pub record IsTraced (set : List Statement) (source : ℕ) (phases : PhaseSet) (text : List ℕ) : Type 0 where
+  pub plain : IsPlain set
+  pub equipment : IsEquipment set source
   pub rows : List Row
-  pub trace : IsTrace reads.statements reads.asks.source reads.asks.phases rows
+  pub trace : IsTrace set source phases rows
   pub is_text : text ≡ trace_text rows
+
+-- what a task tells of a set of statements: a check tells how many they are
+abbrev pub Tells : Task → List Statement → List ℕ → Type 0
+Tells task.Check set text = text ≡ check_text (length set)
+Tells (task.Trace source phases) set text = IsTraced set source.number phases text
+
+-- why a task tells nothing of a set: a trace knows plain networks alone so far, and begins at equipment
+abbrev pub RefusesTrace : List Statement → ℕ → Status → Type 0
+RefusesTrace set source status.Later = IsPlain set → ⊥
+RefusesTrace set source status.Asked = IsPlain set × (IsEquipment set source → ⊥)
+RefusesTrace set source status.NoMemory = Unit {0}
+RefusesTrace set source _ = ⊥
+
+abbrev pub RefusesTask : Task → List Statement → Status → Type 0
+RefusesTask task.Check set refusal = ⊥
+RefusesTask (task.Trace source phases) set refusal = RefusesTrace set source.number refusal
+
+-- what a task tells of bytes, and why it tells nothing of them
+abbrev pub IsTold : List ℕ → Task → List ℕ → Type 0
+IsTold bytes asked text = (set : List Statement) × IsBase bytes set × Tells asked set text
+
+abbrev pub IsUntold : List ℕ → Task → Status → Type 0
+IsUntold bytes asked refusal = RefusesBase bytes refusal ⊎ ((set : List Statement) × IsBase bytes set × RefusesTask asked set refusal)
+
+-- the task's text of the base that was read
+abbrev pub HasAnswer : (List ℕ → Option (List ℕ)) → List (List ℕ) → List ℕ → Type 0
+HasAnswer told words text = (reads : Reads told words) × Tells reads.asks.asked reads.set text
+
+-- the base that was asked for is none
+abbrev pub HasNoBase : (List ℕ → Option (List ℕ)) → List (List ℕ) → Status → Type 0
+HasNoBase told words refusal = (asks : Asks words) × IfSome (told asks.name) (λ bytes. RefusesBase bytes refusal)
+
+-- the base that was read has no such answer
+abbrev pub HasNoAnswer : (List ℕ → Option (List ℕ)) → List (List ℕ) → Status → Type 0
+HasNoAnswer told words refusal = (reads : Reads told words) × RefusesTask reads.asks.asked reads.set refusal
 
 -- When each status comes, and with which text. Want of memory comes at any time, with no text.
 abbrev pub Answers : (List ℕ → Option (List ℕ)) → List (List ℕ) → Status → List ℕ → Type 0
-Answers told words status.Ok text = IsTraced told words text
-Answers told words status.WriteFault text = IsTraced told words text
+Answers told words status.Ok text = HasAnswer told words text
+Answers told words status.WriteFault text = HasAnswer told words text
 Answers told words status.Usage text = IsNoCommand words × (text ≡ status_line status.Usage)
 Answers told words status.ReadFault text = Asks words × (text ≡ status_line status.ReadFault)
-Answers told words status.Later text =
-    ((asks : Asks words) × IfSome (told asks.name) IsNoPlainBase) × (text ≡ status_line status.Later)
-Answers told words status.Asked text =
-    ((reads : Reads told words) × (IsEquipment reads.statements reads.asks.source → ⊥)) × (text ≡ status_line status.Asked)
+Answers told words status.Limit text = HasNoBase told words status.Limit × (text ≡ status_line status.Limit)
+Answers told words (status.Document line why) text =
+    HasNoBase told words (status.Document line why) × (text ≡ status_line (status.Document line why))
+Answers told words (status.Profile rule subject) text =
+    HasNoBase told words (status.Profile rule subject) × (text ≡ status_line (status.Profile rule subject))
+Answers told words status.Later text = HasNoAnswer told words status.Later × (text ≡ status_line status.Later)
+Answers told words status.Asked text = HasNoAnswer told words status.Asked × (text ≡ status_line status.Asked)
 Answers told words status.NoMemory text = text ≡ []
 
 -- What the output gained: the text; after a fault of the output a front of it. A refusal's line that the output does not take
@@ -96,13 +121,10 @@ is_failed_read (Err s) = is_read_fault s
 
 -- a status that follows from the words and from what the shelf told, without a fault or want of memory
 abbrev pub is_answer : Status → Bool
-is_answer status.Ok = true
-is_answer status.Usage = true
-is_answer status.Later = true
-is_answer status.Asked = true
 is_answer status.ReadFault = false
 is_answer status.WriteFault = false
 is_answer status.NoMemory = false
+is_answer _ = true
 
 -- a status that is told by its line, or by nothing
 abbrev pub is_refusal : Status → Bool
@@ -113,5 +135,14 @@ is_refusal _ = true
 -- the status that a failed read leads to
 abbrev pub status_of_fault : ShelfFault → Status
 status_of_fault fault.Failed = status.ReadFault
-status_of_fault fault.Longer = status.Later
+status_of_fault fault.Longer = status.Limit
 status_of_fault fault.NoMemory = status.NoMemory
+
+-- the status that a bad line, and that a set that is not made, lead to
+abbrev pub status_of_line : NtFault → Status
+status_of_line (nt_fault.Line line why) = status.Document line why
+status_of_line nt_fault.NoMemory = status.NoMemory
+
+abbrev pub status_of_set : SetRefusal → Status
+status_of_set (set_refusal.TooMany count) = status.Limit
+status_of_set set_refusal.NoMemory = status.NoMemory

@@ -1,20 +1,22 @@
 //! What the program answers to its words.
 
 ghost use Rattle.std.specs.Prelude.{◌≡◌, ◌≤◌, ℕ, List, length, map, string_bytes, IfOk, IfErr, IsTrue};
-ghost use Rattle.cim_words.specs.declared.statement.Statement.{Statement};
 ghost use Rattle.grid_out.specs.Faults.{CountsFaults};
 ghost use Rattle.room.specs.Base.{base_limit};
-ghost use Rattle.room.specs.Run.{Answers, TracesBytes, RefusesBytes, is_failed_read, is_refusal};
+ghost use Rattle.room.specs.Run.{Answers, IsTold, IsUntold, IsTraced, RefusesTrace, is_failed_read, is_refusal};
 ghost use Rattle.room.specs.Status.{status_line};
 
 use crate::base::read_base;
-use crate::command::trace_command;
+use crate::check_text::write_check;
+use crate::command::command;
 use crate::network::trace;
 use crate::plain::are_plain;
 use crate::status::Status;
+use crate::task::Task;
 use crate::trace_text::write_trace;
 use cim_words::{Id, PhaseSet};
 use grid_out::Shelf;
+use statement_set::StatementSet;
 use std::alloc::Global;
 
 /// The most bytes that a base may have.
@@ -32,29 +34,44 @@ pub(crate) fn answer<F: Shelf>(
     ensures cause { CountsFaults (F.faults shelf.old) (F.faults shelf.new) (is_failed_read result) }
     ensures kept { (name : List ℕ) → F.content shelf.new name ≡ F.content shelf.old name }
 {
-    let Some((name, source, phases)) = trace_command(words) else {
+    let Some((name, task)) = command(words) else {
         return Err(Status::Usage);
     };
     let mut bytes = Vec::new(alloc);
     match shelf.read_whole(name, BASE_LIMIT, &mut bytes) {
-        Ok(()) => trace_of(alloc, &bytes, source, phases),
+        Ok(()) => answer_of(alloc, bytes, task),
         Err(fault) => Err(Status::from(fault)),
     }
 }
 
-/// The text of a trace of a base.
-fn trace_of(alloc: Global, bytes: &[u8], source: Id, phases: PhaseSet) -> Result<Vec<u8>, Status>
-    requires { length bytes.now ≤ base_limit }
-    ensures traced { IfOk result (λ text. TracesBytes bytes.now source.number phases text.items) }
-    ensures refused { IfErr result (RefusesBytes bytes.now source.number) }
+/// What a task tells of a base.
+fn answer_of(alloc: Global, bytes: Vec<u8>, task: Task) -> Result<Vec<u8>, Status>
+    requires { length bytes.items ≤ base_limit }
+    ensures told { IfOk result (λ text. IsTold bytes.items task text.items) }
+    ensures untold { IfErr result (IsUntold bytes.items task) }
 {
-    let Some(base) = read_base(alloc, bytes)? else {
-        return Err(Status::Later);
-    };
-    if !are_plain(&base) {
+    let set = read_base(alloc, bytes)?;
+    match task {
+        Task::Check => Ok(write_check(alloc, set.len())?),
+        Task::Trace { source, phases } => trace_of(alloc, &set, source, phases),
+    }
+}
+
+/// The text of a trace of a set of statements.
+fn trace_of(
+    alloc: Global,
+    set: &StatementSet,
+    source: Id,
+    phases: PhaseSet,
+) -> Result<Vec<u8>, Status>
+    ensures traced { IfOk result (λ text. IsTraced set.now source.number phases text.items) }
+    ensures refused { IfErr result (RefusesTrace set.now source.number) }
+{
+    let statements = set.statements();
+    if !are_plain(statements) {
         return Err(Status::Later);
     }
-    let Some(rows) = trace(alloc, &base, source, phases)? else {
+    let Some(rows) = trace(alloc, statements, source, phases)? else {
         return Err(Status::Asked);
     };
     Ok(write_trace(alloc, &rows)?)

@@ -1,30 +1,26 @@
 //! A base from its bytes.
 
-ghost use Rattle.std.specs.Prelude.{◌≡◌, List, IfOk, IfSome, IsSomeAnd};
-ghost use Rattle.cim_words.specs.declared.statement.Statement.{Statement};
-ghost use Rattle.room.specs.Base.{IsBase};
+ghost use Rattle.std.specs.Prelude.{◌≡◌, ◌≤◌, length, IfOk, IfErr};
+ghost use Rattle.room.specs.Base.{IsBase, RefusesBase, base_limit};
 
-use cim_words::{NoMemory, Statement};
-use nt_text::{cut_at, read_written};
+use crate::status::Status;
+use cim_profile::{Break, first_break};
+use nt_text::read_document;
+use statement_set::StatementSet;
 use std::alloc::Global;
 
-/// The statements whose written forms the bytes are, one after another.
-pub(crate) fn read_base(alloc: Global, bytes: &[u8]) -> Result<Option<Vec<Statement>>, NoMemory>
-    ensures found { IfOk result (λ o. IfSome o (λ found. IsBase bytes.now found.items)) }
-    ensures only { (statements : List Statement) → IsBase bytes.now statements
-        → IfOk result (λ o. IsSomeAnd o (λ found. found.items ≡ statements)) }
+/// The set of statements of a base, or why the bytes are none.
+pub(crate) fn read_base(alloc: Global, bytes: Vec<u8>) -> Result<StatementSet, Status>
+    requires { length bytes.items ≤ base_limit }
+    ensures base { IfOk result (IsBase bytes.items) }
+    ensures refused { IfErr result (RefusesBase bytes.items) }
 {
-    let mut statements = Vec::new(alloc);
-    let mut rest = bytes;
-    while !rest.is_empty() {
-        let Some((line, after)) = cut_at(b'\n', rest) else {
-            return Ok(None);
-        };
-        let Some(statement) = read_written(alloc, line)? else {
-            return Ok(None);
-        };
-        statements.push(statement)?;
-        rest = after;
+    let statements = read_document(alloc, &bytes)?;
+    // The bytes are let go before the statements are put in order.
+    drop(bytes);
+    let set = StatementSet::from_list(statements)?;
+    match first_break(alloc, &set)? {
+        None => Ok(set),
+        Some(Break { rule, subject }) => Err(Status::Profile { rule, subject }),
     }
-    Ok(Some(statements))
 }

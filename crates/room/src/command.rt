@@ -2,25 +2,39 @@
 
 ghost use Rattle.std.specs.Prelude.{◌≡◌, ◌↔◌, ℕ, List, [], ◌∷◌, map, string_bytes, IsTrue, IfSome, IsSomeAnd};
 ghost use Rattle.cim_words.specs.declared.phases.PhaseSet.{PhaseSet};
-ghost use Rattle.room.specs.Command.{IsFileName, IsTraceCommand};
+ghost use Rattle.room.specs.declared.task.Task.{Task};
+ghost use Rattle.room.specs.Command.{IsFileName, IsCommand, IsTraceCommand};
 
+use crate::task::Task;
 use cim_words::{Id, PhaseSet};
 
-/// The base's file name, the source and the phases of the command `trace BASE SOURCE PHASES`.
-pub(crate) fn trace_command(words: &[String]) -> Option<(&str, Id, PhaseSet)>
-    ensures found { IfSome result (λ x. IsTraceCommand (map string_bytes words.now) x.0.now x.1.number x.2) }
-    ensures only { (name : List ℕ) (source : ℕ) (phases : PhaseSet) → IsTraceCommand (map string_bytes words.now) name source phases
-        → IsSomeAnd result (λ x. (x.0.now ≡ name) × (x.1.number ≡ source) × (x.2 ≡ phases)) }
+/// The base's file name and the task of `check BASE` or `trace BASE SOURCE PHASES`.
+pub(crate) fn command(words: &[String]) -> Option<(&str, Task)>
+    ensures found { IfSome result (λ x. IsCommand (map string_bytes words.now) x.0.now x.1) }
+    ensures only { (name : List ℕ) (task : Task) → IsCommand (map string_bytes words.now) name task
+        → IsSomeAnd result (λ x. (x.0.now ≡ name) × (x.1 ≡ task)) }
 {
-    let [command, base, source, phases] = words else {
+    match words {
+        [command, base] => check_words(command.as_str(), base.as_str()),
+        [command, base, source, phases] => trace_words(
+            command.as_str(),
+            base.as_str(),
+            source.as_str(),
+            phases.as_str(),
+        ),
+        _ => None,
+    }
+}
+
+fn check_words<'a>(command: &str, base: &'a str) -> Option<(&'a str, Task)>
+    ensures found { IfSome result (λ x. IsCommand (command.now ∷ base.now ∷ []) x.0.now x.1) }
+    ensures only { (name : List ℕ) (task : Task) → IsCommand (command.now ∷ base.now ∷ []) name task
+        → IsSomeAnd result (λ x. (x.0.now ≡ name) × (x.1 ≡ task)) }
+{
+    if command != "check" || !is_file_name(base) {
         return None;
-    };
-    trace_words(
-        command.as_str(),
-        base.as_str(),
-        source.as_str(),
-        phases.as_str(),
-    )
+    }
+    Some((base, Task::Check))
 }
 
 fn trace_words<'a>(
@@ -28,10 +42,10 @@ fn trace_words<'a>(
     base: &'a str,
     source: &str,
     phases: &str,
-) -> Option<(&'a str, Id, PhaseSet)>
-    ensures found { IfSome result (λ x. IsTraceCommand (command.now ∷ base.now ∷ source.now ∷ phases.now ∷ []) x.0.now x.1.number x.2) }
-    ensures only { (name : List ℕ) (number : ℕ) (set : PhaseSet) → IsTraceCommand (command.now ∷ base.now ∷ source.now ∷ phases.now ∷ []) name number set
-        → IsSomeAnd result (λ x. (x.0.now ≡ name) × (x.1.number ≡ number) × (x.2 ≡ set)) }
+) -> Option<(&'a str, Task)>
+    ensures found { IfSome result (λ x. IsCommand (command.now ∷ base.now ∷ source.now ∷ phases.now ∷ []) x.0.now x.1) }
+    ensures only { (name : List ℕ) (task : Task) → IsCommand (command.now ∷ base.now ∷ source.now ∷ phases.now ∷ []) name task
+        → IsSomeAnd result (λ x. (x.0.now ≡ name) × (x.1 ≡ task)) }
 {
     if command != "trace" || !is_file_name(base) {
         return None;
@@ -41,7 +55,7 @@ fn trace_words<'a>(
     if phases.is_empty() {
         None
     } else {
-        Some((base, source, phases))
+        Some((base, Task::Trace { source, phases }))
     }
 }
 

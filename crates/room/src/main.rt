@@ -4,6 +4,7 @@
 mod answer;
 mod attachments;
 mod base;
+mod check_text;
 mod classes;
 mod command;
 mod file_shelf;
@@ -14,10 +15,12 @@ mod network;
 mod numbering;
 mod out_sink;
 mod plain;
+mod refusal_line;
 mod run;
 mod said;
 mod search;
 mod status;
+mod task;
 mod terminals;
 mod trace_text;
 

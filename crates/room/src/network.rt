@@ -17,7 +17,9 @@ use std::alloc::Global;
 /// A row of a trace: a piece of equipment and the phases in which it is reached.
 #[derive(Clone, Copy, Debug, PartialEq, Eq)]
 pub struct Row {
+    /// The equipment's identifier.
     pub equipment: Id,
+    /// The phases in which it is reached.
     pub phases: PhaseSet,
 }
 

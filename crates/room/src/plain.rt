@@ -1,14 +1,13 @@
-//! Which statements a plain base may have.
+//! Which statements a plain network may have.
 
 ghost use Rattle.std.specs.Prelude.{◌≡◌, ◌↔◌, IsTrue, bytes_eq};
-ghost use Rattle.std.specs.List.{AllPass};
-ghost use Rattle.room.specs.Base as spec;
+ghost use Rattle.room.specs.Plain as spec;
 
 use cim_words::{Class, KnownProp, Object, Prop, Statement};
 
 /// Whether all of them are plain.
 pub(crate) fn are_plain(statements: &[Statement]) -> bool
-    ensures { IsTrue result ↔ AllPass spec.is_plain statements.now }
+    ensures { IsTrue result ↔ spec.IsPlain statements.now }
 {
     statements.iter().all(|statement| is_plain(statement))
 }

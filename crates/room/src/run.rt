@@ -1,11 +1,12 @@
 //! A run of the program, from its words to its output.
 
-ghost use Rattle.std.specs.Prelude.{◌≡◌, ◌⊎◌, ℕ, List, map, string_bytes, IsTrue};
+ghost use Rattle.std.specs.Prelude.{◌≡◌, ◌⊎◌, ℕ, List, [], map, string_bytes, IsTrue, false};
 ghost use Rattle.grid_out.specs.Faults.{CountsFaults};
 ghost use Rattle.room.specs.Run.{Answers, Writes, is_read_fault, is_refusal};
 ghost use Rattle.room.specs.Status.{status_line};
 
 use crate::answer::answer;
+use crate::refusal_line::refusal_line;
 use crate::status::Status;
 use grid_out::{Shelf, Sink};
 use std::alloc::Global;
@@ -27,10 +28,7 @@ pub fn run_plain<F: Shelf, K: Sink>(
 {
     match answer(alloc, words, shelf) {
         Ok(text) => tell(&text, out),
-        Err(refusal) => {
-            refuse(refusal, out);
-            refusal
-        }
+        Err(refusal) => refuse(alloc, refusal, out),
     }
 }
 
@@ -46,13 +44,26 @@ fn tell<K: Sink>(text: &[u8], out: &mut K) -> Status
 }
 
 /// Writes the line of a refusal, where it has one. A line that the output does not take changes nothing.
-fn refuse<K: Sink>(refusal: Status, out: &mut K)
+fn refuse<K: Sink>(alloc: Global, refusal: Status, out: &mut K) -> Status
     requires { IsTrue (is_refusal refusal) }
+    ensures { ((result ≡ refusal) × Writes refusal (K.written out.old) (K.written out.new) (K.faults out.old) (K.faults out.new) (status_line refusal))
+        ⊎ ((result ≡ Status.NoMemory) × (is_read_fault refusal ≡ false) × Writes Status.NoMemory (K.written out.old) (K.written out.new) (K.faults out.old) (K.faults out.new) []) }
+{
+    let Ok(line) = refusal_line(alloc, refusal) else {
+        return Status::NoMemory;
+    };
+    write_line(refusal, line.as_bytes(), out);
+    refusal
+}
+
+/// Writes the line of a refusal, unless it is empty.
+fn write_line<K: Sink>(refusal: Status, line: &[u8], out: &mut K)
+    requires line { line.now ≡ status_line refusal }
+    requires refuses { IsTrue (is_refusal refusal) }
     ensures { Writes refusal (K.written out.old) (K.written out.new) (K.faults out.old) (K.faults out.new) (status_line refusal) }
 {
-    let line = refusal.line();
     if !line.is_empty() {
-        let _ = out.write_all(line.as_bytes());
+        let _ = out.write_all(line);
     }
 }
 

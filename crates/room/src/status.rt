@@ -1,10 +1,12 @@
 //! How a run of the program ends.
 
 ghost use Rattle.std.specs.Prelude.{◌≡◌};
-ghost use Rattle.room.specs.Status.{status_code, status_line};
+ghost use Rattle.room.specs.Status.{status_code};
 
-use cim_words::NoMemory;
+use cim_words::{Id, NoMemory};
 use grid_out::ShelfFault;
+use nt_text::{LineRefusal, NtFault};
+use statement_set::SetRefusal;
 
 /// How a run ends. A refusal is also told by a line on the output.
 #[derive(Clone, Copy, Debug, PartialEq, Eq)]
@@ -15,7 +17,23 @@ pub enum Status {
     Usage,
     /// The base could not be read.
     ReadFault,
-    /// The base is larger than this program takes, or holds what it does not know yet.
+    /// The base has more bytes or more different statements than this program takes.
+    Limit,
+    /// A line of the base, counted from 1, is refused.
+    Document {
+        /// The line's number.
+        line: u32,
+        /// Why it is refused.
+        why: LineRefusal,
+    },
+    /// A subject of the base breaks a rule of the profile.
+    Profile {
+        /// The rule's number.
+        rule: u8,
+        /// The subject.
+        subject: Id,
+    },
+    /// The base holds what a trace does not know yet.
     Later,
     /// The source of a trace is no equipment of the base.
     Asked,
@@ -45,8 +63,36 @@ impl From<ShelfFault> for Status {
     fn from(fault: ShelfFault) -> Status {
         match fault {
             ShelfFault::Failed => Status::ReadFault,
-            ShelfFault::Longer => Status::Later,
+            ShelfFault::Longer => Status::Limit,
             ShelfFault::NoMemory => Status::NoMemory,
+        }
+    }
+}
+
+impl From<NtFault> for Status {
+    ghost use Rattle.std.specs.Prelude.{◌≡◌};
+    ghost use Rattle.room.specs.Run.{status_of_line};
+
+    ghost from_gives = { λ fault status. status ≡ status_of_line fault };
+
+    fn from(fault: NtFault) -> Status {
+        match fault {
+            NtFault::Line { line, why } => Status::Document { line, why },
+            NtFault::NoMemory => Status::NoMemory,
+        }
+    }
+}
+
+impl From<SetRefusal> for Status {
+    ghost use Rattle.std.specs.Prelude.{◌≡◌};
+    ghost use Rattle.room.specs.Run.{status_of_set};
+
+    ghost from_gives = { λ refusal status. status ≡ status_of_set refusal };
+
+    fn from(refusal: SetRefusal) -> Status {
+        match refusal {
+            SetRefusal::TooMany(_) => Status::Limit,
+            SetRefusal::NoMemory => Status::NoMemory,
         }
     }
 }
@@ -60,23 +106,11 @@ impl Status {
             Status::Ok => 0,
             Status::Usage => 2,
             Status::ReadFault => 1,
+            Status::Limit | Status::Document { .. } | Status::Profile { .. } => 3,
             Status::Later => 8,
             Status::Asked => 4,
             Status::WriteFault => 5,
             Status::NoMemory => 6,
-        }
-    }
-
-    /// The line that tells of a refusal, empty where there is none.
-    pub fn line(&self) -> &'static str
-        ensures { result.now ≡ status_line self.now }
-    {
-        match self {
-            Status::Ok | Status::WriteFault | Status::NoMemory => "",
-            Status::Usage => "usage\n",
-            Status::ReadFault => "read fault\n",
-            Status::Later => "later\n",
-            Status::Asked => "asked\n",
         }
     }
 }

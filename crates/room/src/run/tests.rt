@@ -1,8 +1,9 @@
 //! Runs over content and an output in memory.
 
 use super::*;
-use cim_words::NoMemory;
+use cim_words::{Id, NoMemory};
 use grid_out::{Files, MemShelf, MemSink};
+use nt_text::LineRefusal;
 use std::test::Fail;
 
 /// The first base: a source, a breaker, a segment and a consumer.
@@ -54,6 +55,32 @@ const LATERAL: [(&str, &str, &str); 12] = [
     ("78", "ACDCTerminal.sequenceNumber", r#""2""#),
 ];
 
+/// What a model may carry without effect: names with language tags, datatypes, a model's header and a transformer's end.
+const FURTHER: &str =
+    "<urn:uuid:~51> <http://iec.ch/TC57/CIM100#IdentifiedObject.name> \"Line 1\"@en .\n\
+    <urn:uuid:~51> <http://iec.ch/TC57/CIM100#IdentifiedObject.name> \"Ligne 1\" @fr-CA .\n\
+    <urn:uuid:~51> <http://iec.ch/TC57/CIM100#Conductor.length> \"100\" ^^ <http://www.w3.org/2001/XMLSchema#decimal> .\n\
+    <urn:uuid:~b1> <http://iec.ch/TC57/CIM100#Switch.normalOpen> \"false\"^^<http://www.w3.org/2001/XMLSchema#boolean> .\n\
+    <urn:uuid:~f1> <http://www.w3.org/1999/02/22-rdf-syntax-ns#type> <http://iec.ch/TC57/61970-552/ModelDescription/1#FullModel> .\n\
+    <urn:uuid:~f2> <http://www.w3.org/1999/02/22-rdf-syntax-ns#type> <http://iec.ch/TC57/CIM100#PowerTransformerEnd> .\n\
+    <urn:uuid:~f2> <http://iec.ch/TC57/CIM100#TransformerEnd.Terminal> <urn:uuid:~76> .\n";
+
+/// Small documents.
+const DOCUMENTS: [(&str, &str); 6] = [
+    ("empty", ""),
+    (
+        "spellings",
+        "<http://x#_~AB> <http://x/p> \"v\" . # c\r\n<urn:uuid:~ab> <http://x/p> \"v\"^^<http://x/t> .",
+    ),
+    (
+        "third",
+        "<urn:uuid:~ab> <http://x/p> \"v\" .\n<urn:uuid:~ab> <http://x/p> \"w\" .\n<urn:uuid:~ab> <http://x/p> \"v",
+    ),
+    ("blank", "_:b <http://x/p> \"v\" ."),
+    ("subject", "<http://x/y> <http://x/p> \"v\" ."),
+    ("ends", "# one\r\n\r# three\n<urn:uuid:~ab> <http://x/p> ."),
+];
+
 /// Appends the written form of a statement, of `~` and the last two digits of an identifier, and names of the standard.
 fn push_statement(
     text: &mut String,
@@ -87,19 +114,67 @@ fn push_id(text: &mut String, digits: &str) -> Result<(), NoMemory> {
     text.push_str(">")
 }
 
-/// A shelf with the first base as `b1` and the same with the lateral as `b2`.
-fn shelf(alloc: Global) -> Result<MemShelf, NoMemory> {
+/// The text with `~` for all but the last two digits of an identifier.
+fn identified(alloc: Global, short: &str) -> Result<String, NoMemory> {
     let mut text = String::new(alloc);
-    for (subject, prop, object) in FIRST {
+    for c in short.chars() {
+        match c {
+            '~' => text.push_str("00000000-0000-4000-8000-0000000000")?,
+            _ => text.push(c)?,
+        }
+    }
+    Ok(text)
+}
+
+/// The first base without one of its statements, and further statements.
+fn base(
+    alloc: Global,
+    left_out: usize,
+    further: &[(&str, &str, &str)],
+) -> Result<String, NoMemory> {
+    let mut text = String::new(alloc);
+    for (index, (subject, prop, object)) in FIRST.iter().enumerate() {
+        if index != left_out {
+            push_statement(&mut text, subject, prop, object)?;
+        }
+    }
+    for (subject, prop, object) in further {
         push_statement(&mut text, subject, prop, object)?;
     }
+    Ok(text)
+}
+
+/// A line of one statement that has 65 bytes besides these letters.
+fn long_line(alloc: Global, letters: usize) -> Result<String, NoMemory> {
+    let mut text = identified(alloc, "<urn:uuid:~ab> <http://x/p> \"")?;
+    for _ in 0..letters {
+        text.push('v')?;
+    }
+    text.push_str("\" .")?;
+    Ok(text)
+}
+
+/// Adds the first base as `b1`, with a lateral as `b2`, without the consumer's terminal's equipment as `b0`, and with what a
+/// model may carry as `b9`.
+fn add_bases(alloc: Global, files: &mut Files) -> Result<(), NoMemory> {
+    files.add("b1", base(alloc, 99, &[])?.as_bytes())?;
+    files.add("b2", base(alloc, 99, &LATERAL)?.as_bytes())?;
+    files.add("b0", base(alloc, 27, &[])?.as_bytes())?;
+    let mut text = base(alloc, 99, &[])?;
+    text.push_str(identified(alloc, FURTHER)?.as_str())?;
+    files.add("b9", text.as_bytes())
+}
+
+/// A shelf with the bases, the small documents and two long lines.
+fn shelf(alloc: Global) -> Result<MemShelf, NoMemory> {
     let mut files = Files::empty(alloc);
-    files.add("b1", text.as_bytes())?;
-    for (subject, prop, object) in LATERAL {
-        push_statement(&mut text, subject, prop, object)?;
+    add_bases(alloc, &mut files)?;
+    for (name, text) in DOCUMENTS {
+        files.add(name, identified(alloc, text)?.as_bytes())?;
     }
-    files.add("b2", text.as_bytes())?;
-    files.add("empty", b"")?;
+    files.add("utf8", &[0xFF])?;
+    files.add("fits", long_line(alloc, 8_127)?.as_bytes())?;
+    files.add("long", long_line(alloc, 8_128)?.as_bytes())?;
     MemShelf::new(alloc, files, &[])
 }
 
@@ -123,6 +198,18 @@ fn words(alloc: Global, command: &str) -> Result<Vec<String>, NoMemory> {
         words.push(String::from_str(alloc, word)?)?;
     }
     Ok(words)
+}
+
+/// The consumer's terminal names no equipment.
+const OWNERLESS: Status = Status::Profile {
+    rule: 3,
+    subject: Id {
+        number: 0x4000_8000_0000_0000_0076,
+    },
+};
+
+fn bad_line(line: u32, why: LineRefusal) -> Status {
+    Status::Document { line, why }
 }
 
 #[test]
@@ -152,7 +239,66 @@ fn traces_and_refusals(rt: HostRuntime) -> Result<(), Fail> {
         ("trace empty ~e1 ABC", Status::Asked, 4, "asked/"),
         ("trace b2 ~e1 ABC", Status::Later, 8, "later/"),
         ("trace b3 ~e1 ABC", Status::ReadFault, 1, "read fault/"),
+        ("check b1", Status::Ok, 0, "ok 29/"),
+        ("check empty", Status::Ok, 0, "ok 0/"),
+        ("check spellings", Status::Ok, 0, "ok 1/"),
+        ("check fits", Status::Ok, 0, "ok 1/"),
+        ("check b2", Status::Ok, 0, "ok 41/"),
+        ("check b9", Status::Ok, 0, "ok 34/"),
+        (
+            "trace b9 ~e1 ABC",
+            Status::Ok,
+            0,
+            "trace 0 4/~51 ABC/~b1 ABC/~c1 ABC/~e1 ABC/",
+        ),
+        (
+            "check third",
+            bad_line(3, LineRefusal::Syntax),
+            3,
+            "document 3 Syntax/",
+        ),
+        (
+            "trace third ~e1 ABC",
+            bad_line(3, LineRefusal::Syntax),
+            3,
+            "document 3 Syntax/",
+        ),
+        (
+            "check blank",
+            bad_line(1, LineRefusal::Blank),
+            3,
+            "document 1 Blank/",
+        ),
+        (
+            "check subject",
+            bad_line(1, LineRefusal::Subject),
+            3,
+            "document 1 Subject/",
+        ),
+        (
+            "check utf8",
+            bad_line(1, LineRefusal::Utf8),
+            3,
+            "document 1 Utf8/",
+        ),
+        (
+            "check long",
+            bad_line(1, LineRefusal::LineTooLong),
+            3,
+            "document 1 LineTooLong/",
+        ),
+        (
+            "check ends",
+            bad_line(4, LineRefusal::Syntax),
+            3,
+            "document 4 Syntax/",
+        ),
+        ("check b0", OWNERLESS, 3, "profile 3 ~76/"),
+        ("trace b0 ~e1 ABC", OWNERLESS, 3, "profile 3 ~76/"),
+        ("check b3", Status::ReadFault, 1, "read fault/"),
         ("check", Status::Usage, 2, "usage/"),
+        ("check -b1", Status::Usage, 2, "usage/"),
+        ("check b1 b1", Status::Usage, 2, "usage/"),
         ("trace b1 ~e1 -", Status::Usage, 2, "usage/"),
         ("trace b1 ~e1 BA", Status::Usage, 2, "usage/"),
         ("trace b1 {~e1} ABC", Status::Usage, 2, "usage/"),
@@ -180,6 +326,14 @@ fn faults_of_the_output(rt: HostRuntime) -> Result<(), Fail> {
         ("trace b1 ~e1 ABC", 1000, 1, Status::WriteFault, ""),
         ("trace b1 ~e1 ABC", 10, 2, Status::WriteFault, "trace 0 4/"),
         ("trace b1 ~a1 ABC", 1000, 1, Status::Asked, ""),
+        ("check b1", 1000, 1, Status::WriteFault, ""),
+        (
+            "check third",
+            8,
+            2,
+            bad_line(3, LineRefusal::Syntax),
+            "document",
+        ),
         ("check", 3, 2, Status::Usage, "usa"),
     ];
     for (command, room, failing, status, text) in cases {

@@ -2,38 +2,21 @@ use Rattle.std.proofs.Common.{sym, ap, subst, map, string_bytes, Err}
 use Rattle.room.specs.Run.{Asks, Answers}
 use Rattle.room.specs.Status.{status_line}
 use Rattle.room.specs.declared.status.Status.{Status}
-use Rattle.room.proofs.AnswerLemmas.{traced, refused, unread}
+use Rattle.room.proofs.AnswerLemmas.{told, untold, unread}
 use Rattle.room.proofs.answer.answer.Goals as goal
 
 pub returns-in-Ok-clause-text : goal.returns-in-Ok-clause-text
 returns-in-Ok-clause-text g c =
-    let asks : Asks (map string_bytes c.args.words.now) = record {
-      name = c.in-Some.name.now;
-      source = c.in-Some.source.number;
-      phases = c.in-Some.phases;
-      command = c.in-Some.ensures.found;
-    } in
-    traced c.trace_of.result (g.F.Shelf.content c.args.shelf.now) (map string_bytes c.args.words.now) asks c.deref.result.now
-    (rw c.deref.ensures.value c.in-Ok.ensures.ok) c.trace_of.ensures.traced
+    let asks : Asks (map string_bytes c.args.words.now) = record { name = c.in-Some.name.now; asked = c.in-Some.task; command = c.in-Some.ensures.found } in
+    told c.answer_of.result (g.F.Shelf.content c.args.shelf.now) (map string_bytes c.args.words.now) asks c.read_whole.new.into.items c.in-Ok.ensures.ok c.answer_of.ensures.told
 
 pub returns-in-Ok-clause-refusal : goal.returns-in-Ok-clause-refusal
 returns-in-Ok-clause-refusal g c =
-    let asks : Asks (map string_bytes c.args.words.now) = record {
-      name = c.in-Some.name.now;
-      source = c.in-Some.source.number;
-      phases = c.in-Some.phases;
-      command = c.in-Some.ensures.found;
-    } in
-    refused c.trace_of.result (g.F.Shelf.content c.args.shelf.now) (map string_bytes c.args.words.now) asks c.deref.result.now
-    (rw c.deref.ensures.value c.in-Ok.ensures.ok) c.trace_of.ensures.refused
+    let asks : Asks (map string_bytes c.args.words.now) = record { name = c.in-Some.name.now; asked = c.in-Some.task; command = c.in-Some.ensures.found } in
+    untold c.answer_of.result (g.F.Shelf.content c.args.shelf.now) (map string_bytes c.args.words.now) asks c.read_whole.new.into.items c.in-Ok.ensures.ok c.answer_of.ensures.untold
 
-pub returns-clause-refusal : goal.returns-clause-refusal
-returns-clause-refusal g c =
-    let asks : Asks (map string_bytes c.args.words.now) = record {
-      name = c.in-Some.name.now;
-      source = c.in-Some.source.number;
-      phases = c.in-Some.phases;
-      command = c.in-Some.ensures.found;
-    } in
+pub returns-in-Err-clause-refusal : goal.returns-in-Err-clause-refusal
+returns-in-Err-clause-refusal g c =
+    let asks : Asks (map string_bytes c.args.words.now) = record { name = c.in-Some.name.now; asked = c.in-Some.task; command = c.in-Some.ensures.found } in
     let A : Status → Type 0 = λ s. Answers (g.F.Shelf.content c.args.shelf.now) (map string_bytes c.args.words.now) s (status_line s) in
     subst A (sym c.from.ensures) (unread c.in-Err.fault (g.F.Shelf.content c.args.shelf.now) (map string_bytes c.args.words.now) asks (λ is. c.in-Err.ensures.longer (ap Err is)))
