@@ -7,7 +7,7 @@ use Rattle.cim_words.specs.declared.known_prop.KnownProp.{KnownProp}
 use Rattle.cim_words.specs.declared.object.Object.{Object}
 use Rattle.cim_words.specs.declared.statement.Statement.{Statement}
 use Rattle.cim_profile.specs.Facts.{Holds}
-use Rattle.cim_profile.specs.Model as model
+use Rattle.cim_model.specs.Model as model
 use Rattle.cim_profile.specs.Table.{has_key, rows_at, values_at}
 use Rattle.cim_profile.specs.declared.table.Row.{Row}
 use Rattle.cim_profile.proofs.Lists.{take_next}

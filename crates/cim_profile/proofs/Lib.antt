@@ -10,5 +10,4 @@ pub mod Stable
 pub mod Stages
 pub mod TypeRows
 pub mod RuleLemmas
-pub mod Runs
 pub mod Walks

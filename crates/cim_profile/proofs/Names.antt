@@ -3,7 +3,7 @@ use Rattle.std.proofs.Common.{◌≡◌, List, [], ◌∷◌, length, Bool, true
 use Rattle.std.specs.List.{list_any}
 use Rattle.cim_words.specs.declared.object.Object.{Object}
 use Rattle.cim_words.specs.declared.object.Object.TheVariants as object
-use Rattle.cim_profile.specs.Rules.{is_one_name}
+use Rattle.cim_model.specs.Profile.{is_one_name}
 
 -- whether an object names a class
 abbrev pub is_name : Object → Bool

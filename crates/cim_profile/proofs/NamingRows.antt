@@ -4,8 +4,9 @@ use Rattle.std.proofs.lemmas.List.{map-append, take_all}
 use Rattle.cim_words.specs.declared.identifier.Id.{Id}
 use Rattle.cim_words.specs.declared.known_prop.KnownProp.{KnownProp}
 use Rattle.cim_words.specs.declared.statement.Statement.{Statement}
-use Rattle.cim_profile.specs.Facts.{HoldsNaming, number_of_id}
-use Rattle.cim_profile.specs.Model.{is_naming, naming}
+use Rattle.cim_model.specs.Values.{number_of_id}
+use Rattle.cim_profile.specs.Facts.{HoldsNaming}
+use Rattle.cim_model.specs.Model.{is_naming, naming}
 use Rattle.cim_profile.specs.Table.{rows_at, values_at}
 use Rattle.cim_profile.specs.declared.table.Row.{Row}
 use Rattle.cim_profile.proofs.Held.{append_nil, map_filter-append, values-append}

@@ -10,10 +10,11 @@ use Rattle.cim_words.specs.declared.identifier.Id.{Id}
 use Rattle.cim_words.specs.declared.known_prop.KnownProp.{KnownProp}
 use Rattle.cim_words.specs.declared.length.Length.{Length}
 use Rattle.cim_words.specs.declared.statement.Statement.{Statement}
-use Rattle.cim_profile.specs.Facts.{HoldsNaming, mm_of, number_of_id}
-use Rattle.cim_profile.specs.Model.{naming}
+use Rattle.cim_model.specs.Values.{mm_of, number_of_id}
+use Rattle.cim_profile.specs.Facts.{HoldsNaming}
+use Rattle.cim_model.specs.Model.{naming}
 use Rattle.cim_profile.specs.Places.{is_at, is_other, place_at}
-use Rattle.cim_profile.specs.Rules.{share_one}
+use Rattle.cim_model.specs.Profile.{share_one}
 use Rattle.cim_profile.specs.Table.{has_key, values_at}
 use Rattle.cim_profile.specs.declared.marks.Place.{Place}
 use Rattle.cim_profile.specs.declared.table.Row.{Row}

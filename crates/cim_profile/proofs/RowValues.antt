@@ -8,9 +8,10 @@ use Rattle.std.proofs.lemmas.List.Elements.{filter-append}
 use Rattle.cim_words.specs.declared.identifier.Id.{Id}
 use Rattle.cim_words.specs.declared.length.Length.{Length}
 use Rattle.cim_words.specs.declared.object.Object.{Object}
-use Rattle.cim_profile.specs.Facts.{cons_present, mm_of, number_of_id, present, present_or_zero}
-use Rattle.cim_profile.specs.Model.{is_empty}
-use Rattle.cim_profile.specs.Network.{length_said, or_zero}
+use Rattle.cim_model.specs.Values.{length_said, mm_of, number_of_id}
+use Rattle.cim_profile.specs.Facts.{cons_present, present, present_or_zero}
+use Rattle.cim_model.specs.Model.{is_empty}
+use Rattle.cim_model.specs.Stated.{or_zero}
 use Rattle.cim_profile.specs.declared.table.Row.{Row}
 use Rattle.cim_profile.proofs.Held.{append_nil}
 use Rattle.cim_profile.proofs.Lists.{filter_map_present, take_next}

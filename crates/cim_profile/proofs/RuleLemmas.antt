@@ -7,8 +7,8 @@ use Rattle.cim_words.specs.declared.known_prop.KnownProp.{KnownProp}
 use Rattle.cim_words.specs.declared.object.Object.{Object}
 use Rattle.cim_words.specs.declared.statement.Statement.{Statement}
 use Rattle.cim_profile.specs.Facts.{is_present_and}
-use Rattle.cim_profile.specs.Network.{ids_said}
-use Rattle.cim_profile.specs.Model.{about, is_by, said_in, id_said, named_by}
+use Rattle.cim_model.specs.Stated.{ids_said}
+use Rattle.cim_model.specs.Model.{about, is_by, said_in, id_said, named_by}
 use Rattle.cim_profile.proofs.Lists.{any_said, any_present, filter_map_present}
 
 -- a test that has passed adds nothing to another

@@ -1,12 +1,13 @@
 -- The least fault of a model, from those of the two stages of its rules.
 use Rattle.std.proofs.Common.{◌≡◌, ℕ, ◌<◌, ◌≤◌, List, [], ◌∷◌, Bool, true, false, ◌||◌, inl, Option, Some, None, refl, sym, subst, ◌∙◌, arith, ⊎_elim, zero, suc, slice_index_or}
+use Rattle.cim_profile.specs.FirstBreak.{IsFirstBreak}
 use Rattle.cim_words.specs.declared.statement.Statement.{Statement}
-use Rattle.cim_profile.specs.Model.{is_subject}
-use Rattle.cim_profile.specs.Rules.{breaks, breaks_type, breaks_once, breaks_owner, breaks_target, breaks_terminals, breaks_numbers, breaks_form, breaks_place, breaks_crowd, breaks_sides, IsFirstBreak}
+use Rattle.cim_model.specs.Model.{is_subject}
+use Rattle.cim_model.specs.Profile.{breaks, breaks_type, breaks_once, breaks_owner, breaks_target, breaks_terminals, breaks_numbers, breaks_form, breaks_place, breaks_crowd, breaks_sides}
 use Rattle.cim_profile.specs.Walk.{IsLeast, breaks_in}
 use Rattle.cim_profile.specs.declared.faults.Break.{Break}
 use Rattle.cim_profile.specs.declared.faults.Stage.TheVariants.{Repeats, Rest}
-use Rattle.cim_profile.proofs.Runs.{either, or_left, or_right}
+use Rattle.cim_model.proofs.Runs.{either, or_left, or_right}
 
 or_false : (a : Bool) → a ≡ (a || false)
 or_false true = refl

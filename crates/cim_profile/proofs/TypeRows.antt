@@ -6,13 +6,13 @@ use Rattle.cim_words.specs.declared.class.Class.{Class}
 use Rattle.cim_words.specs.declared.known_prop.KnownProp.TheVariants.{K1}
 use Rattle.cim_words.specs.declared.statement.Statement.{Statement}
 use Rattle.cim_profile.specs.Facts.{Holds, HoldsTypes, is_present_and, present}
-use Rattle.cim_profile.specs.Model.{class_named, is_empty, is_of, said}
+use Rattle.cim_model.specs.Model.{class_named, is_empty, is_of, said}
 use Rattle.cim_profile.specs.Table.{has_key, rows_at, values_at}
 use Rattle.cim_profile.specs.declared.table.Row.{Row}
 use Rattle.cim_profile.proofs.Held.{holds_kept}
 use Rattle.cim_profile.proofs.Lists.{any_said, any_there, filter_map_present}
 use Rattle.cim_profile.proofs.RowValues.{map_itself}
-use Rattle.cim_profile.proofs.Runs.{same_number}
+use Rattle.cim_model.proofs.Runs.{same_number}
 
 -- ---- a test of some element, where repeated ones are dropped
 

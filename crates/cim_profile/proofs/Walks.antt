@@ -4,14 +4,15 @@ use Rattle.std.specs.List.{list_any}
 use Rattle.std.proofs.lemmas.Bool.{cases_lt}
 use Rattle.std.proofs.lemmas.Bool.Decides.{nat_tests}
 use Rattle.std.proofs.lemmas.List.Folds.{list_any-append}
+use Rattle.cim_profile.specs.FirstBreak.{IsAtMost}
 use Rattle.cim_words.specs.declared.identifier.Id.{Id}
 use Rattle.cim_words.specs.declared.statement.Statement.{Statement}
 use Rattle.statement_set.specs.Set.{IsOrdered}
-use Rattle.cim_profile.specs.Model.{about, is_about, is_subject}
-use Rattle.cim_profile.specs.Rules.{IsAtMost}
-use Rattle.cim_profile.specs.Walk.{run_of, lesser_of, IsFirst, IsLeast, IsLesserBy}
+use Rattle.cim_model.specs.Model.{about, is_about, is_subject}
+use Rattle.cim_model.specs.Runs.{run_of}
+use Rattle.cim_profile.specs.Walk.{lesser_of, IsFirst, IsLeast, IsLesserBy}
 use Rattle.cim_profile.specs.declared.faults.Break.{Break}
-use Rattle.cim_profile.proofs.Runs.{front, past, take_front, drop_past, front_past, either, or_left, or_right, not_true, IsNoneBelow, Rises, ordered_rises, rises_past, later, run_subject, run_has, about_run, number_itself}
+use Rattle.cim_model.proofs.Runs.{front, past, take_front, drop_past, front_past, either, or_left, or_right, not_true, IsNoneBelow, Rises, ordered_rises, rises_past, later, run_subject, run_has, about_run, number_itself}
 
 -- ---- the least fault of some subjects
 

@@ -1,15 +1,15 @@
 -- What the tables over a model hold.
-use Rattle.std.specs.Prelude.{ℕ, ◌≡◌, List, [], ◌∷◌, map, Bool, false, ◌==◌, Option, Some, None}
+use Rattle.std.specs.Prelude.{ℕ, ◌≡◌, List, [], ◌∷◌, map, Bool, false, Option, Some, None}
 use Rattle.std.specs.List.{list_any}
 use Rattle.cim_words.specs.Groups as groups
 use Rattle.cim_words.specs.declared.class.Class.{Class}
 use Rattle.cim_words.specs.declared.identifier.Id.{Id}
 use Rattle.cim_words.specs.declared.known_prop.KnownProp.{KnownProp}
 use Rattle.cim_words.specs.declared.known_prop.KnownProp.TheVariants.{K1}
-use Rattle.cim_words.specs.declared.length.Length.{Length}
 use Rattle.cim_words.specs.declared.object.Object.{Object}
 use Rattle.cim_words.specs.declared.statement.Statement.{Statement}
-use Rattle.cim_profile.specs.Model.{said, naming, is_empty, is_of}
+use Rattle.cim_model.specs.Model.{said, naming, is_empty, is_of}
+use Rattle.cim_model.specs.Values.{number_of_id}
 use Rattle.cim_profile.specs.Table.{values_at}
 use Rattle.cim_profile.specs.declared.table.Row.{Row}
 use Rattle.cim_profile.specs.declared.kind.Kind.{Kind}
@@ -29,13 +29,6 @@ kind_test kind.SwitchPhase = groups.is_switch_phase
 kind_test kind.Known = groups.is_known_class
 kind_test (kind.Carrying k) = groups.counts_on k
 
--- the numbers of identifiers, and the millimetres of lengths
-abbrev pub number_of_id : Id → ℕ
-number_of_id id = id.number
-
-abbrev pub mm_of : Length → ℕ
-mm_of length = length.mm
-
 -- the rows of a subject hold what its statements by a property say, each read in one way and seen in another
 abbrev pub Holds : {V W : Type 0} → (V → W) → (Object → W) → KnownProp → List Statement → List (Row V) → Type 0
 Holds sees reads k m rows = (x : ℕ) → map sees (values_at rows x) ≡ map reads (said m x k)
@@ -43,11 +36,6 @@ Holds sees reads k m rows = (x : ℕ) → map sees (values_at rows x) ≡ map re
 -- the rows of an identifier hold the subjects that name it by a property
 abbrev pub HoldsNaming : KnownProp → List Statement → List (Row Id) → Type 0
 HoldsNaming k m rows = (x : ℕ) → map number_of_id (values_at rows x) ≡ naming m k x
-
--- whether an identifier is there and is this
-abbrev pub is_some_id : ℕ → Option Id → Bool
-is_some_id x None = false
-is_some_id x (Some id) = id.number == x
 
 -- whether a value is there and passes a test
 abbrev pub is_present_and : {V : Type 0} → (V → Bool) → Option V → Bool

@@ -6,8 +6,8 @@ use Rattle.std.specs.declared.cmp.Ordering.{Ordering}
 use Rattle.cim_words.specs.declared.identifier.Id.{Id}
 use Rattle.cim_words.specs.declared.length.Length.{Length}
 use Rattle.cim_words.specs.declared.statement.Statement.{Statement}
-use Rattle.cim_profile.specs.Network.{stated_lengths, cut_lengths, clamp_lengths, cuts_of, clamps_of}
-use Rattle.cim_profile.specs.Rules.{is_beyond, shares_place}
+use Rattle.cim_model.specs.Stated.{stated_lengths, cut_lengths, clamp_lengths, cuts_of, clamps_of}
+use Rattle.cim_model.specs.Profile.{is_beyond, shares_place}
 use Rattle.cim_profile.specs.declared.marks.Place.{Place}
 
 -- a mark with these lengths lies beyond a segment, and a cut may share a place there too

@@ -3,7 +3,7 @@ use Rattle.std.specs.Prelude.{◌≡◌, List, map, Option}
 use Rattle.cim_words.specs.declared.class.Class.{Class}
 use Rattle.cim_words.specs.declared.statement.Statement.{Statement}
 use Rattle.cim_profile.specs.Facts.{NameTypes}
-use Rattle.cim_profile.specs.Model.{about}
+use Rattle.cim_model.specs.Model.{about}
 use Rattle.cim_profile.specs.declared.subject.Subject.{Subject}
 use Rattle.cim_profile.specs.declared.table.Row.{Row}
 

@@ -1,18 +1,12 @@
 -- The walks over the subjects of a model, one for each stage of the rules.
 use Rattle.std.specs.Prelude.{ℕ, ◌≡◌, ◌<◌, List, [], ◌∷◌, Bool, true, false, Option, Some, None, if◌then◌else◌, nat_lt, slice_index_or}
-use Rattle.std.specs.List.{prefix_len}
 use Rattle.cim_words.specs.declared.identifier.Id.{Id}
 use Rattle.cim_words.specs.declared.statement.Statement.{Statement}
-use Rattle.cim_profile.specs.Model.{is_about}
-use Rattle.cim_profile.specs.Rules.{breaks_type, breaks_once, breaks_owner, breaks_target, breaks_terminals, breaks_numbers, breaks_form, breaks_place, breaks_crowd, breaks_sides, IsAtMost}
+use Rattle.cim_model.specs.Profile.{breaks_type, breaks_once, breaks_owner, breaks_target, breaks_terminals, breaks_numbers, breaks_form, breaks_place, breaks_crowd, breaks_sides}
+use Rattle.cim_profile.specs.FirstBreak.{IsAtMost}
 use Rattle.cim_profile.specs.declared.faults.Break.{Break}
 use Rattle.cim_profile.specs.declared.faults.Stage.{Stage}
 use Rattle.cim_profile.specs.declared.faults.Stage.TheVariants as stage
-
--- how many statements at the front are about the subject of the first one
-abbrev pub run_of : List Statement → ℕ
-run_of [] = 0
-run_of (s ∷ rest) = prefix_len (is_about s.subject.number) (s ∷ rest)
 
 -- the fault so far, or that of a later subject where it is by an earlier rule
 abbrev pub lesser_of : Option Break → Option ℕ → Id → Option Break

@@ -1,5 +1,8 @@
 //! The properties that the rules of the profile go through.
 
+ghost use Rattle.std.specs.Prelude.{◌≡◌};
+ghost use Rattle.cim_model.specs.Profile.{attributes, references, values};
+
 use cim_words::KnownProp;
 
 /// All but the type.
@@ -51,3 +54,10 @@ pub(crate) const VALUES: [KnownProp; 12] = [
     KnownProp::K19,
     KnownProp::K20,
 ];
+
+/// The rules go through just these properties.
+pub(crate) fn properties_are_of_the_profile()
+    ensures attributes { ATTRIBUTES ≡ attributes }
+    ensures references { REFERENCES ≡ references }
+    ensures values { VALUES ≡ values }
+{}

@@ -1,7 +1,7 @@
 //! The rules of the profile that count terminals and marks, and that compare numbers and places.
 
 ghost use Rattle.std.specs.Prelude.{◌≡◌, [], ◌∷◌, IfOk};
-ghost use Rattle.cim_profile.specs.Rules as spec;
+ghost use Rattle.cim_model.specs.Profile as spec;
 ghost use Rattle.cim_profile.specs.Subject.{IsSubjectOf};
 
 use crate::facts::Facts;

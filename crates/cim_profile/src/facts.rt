@@ -7,9 +7,10 @@ ghost use Rattle.cim_words.specs.declared.length.Length.{Length};
 ghost use Rattle.cim_words.specs.declared.class.Class.{Class};
 ghost use Rattle.cim_words.specs.declared.known_prop.KnownProp.TheVariants.{K2, K3, K5, K8, K9, K10, K11, K12};
 ghost use Rattle.cim_profile.specs.Facts as spec;
-ghost use Rattle.cim_profile.specs.Model as model;
-ghost use Rattle.cim_profile.specs.Network as network;
-ghost use Rattle.cim_profile.specs.Rules.{is_thing};
+ghost use Rattle.cim_model.specs.Values as values;
+ghost use Rattle.cim_model.specs.Model as model;
+ghost use Rattle.cim_model.specs.Stated as network;
+ghost use Rattle.cim_model.specs.Profile.{is_thing};
 ghost use Rattle.cim_profile.specs.declared.table.Row.{Row};
 
 use crate::kind::Kind;
@@ -36,10 +37,10 @@ pub(crate) struct Facts<'a> {
     ghost of_terminals_at: { spec.HoldsNaming K3 statements.now terminals_at },
     ghost of_cuts: { spec.HoldsNaming K11 statements.now cuts },
     ghost of_clamps: { spec.HoldsNaming K9 statements.now clamps },
-    ghost of_numbers: { spec.Holds (λ (number : Option ℕ). number) network.number_said K5 statements.now numbers },
-    ghost of_lengths: { spec.Holds (option_map spec.mm_of) network.length_said K8 statements.now lengths },
-    ghost of_cut_lengths: { spec.Holds (option_map spec.mm_of) network.length_said K12 statements.now cut_lengths },
-    ghost of_clamp_lengths: { spec.Holds (option_map spec.mm_of) network.length_said K10 statements.now clamp_lengths },
+    ghost of_numbers: { spec.Holds (λ (number : Option ℕ). number) values.number_said K5 statements.now numbers },
+    ghost of_lengths: { spec.Holds (option_map values.mm_of) values.length_said K8 statements.now lengths },
+    ghost of_cut_lengths: { spec.Holds (option_map values.mm_of) values.length_said K12 statements.now cut_lengths },
+    ghost of_clamp_lengths: { spec.Holds (option_map values.mm_of) values.length_said K10 statements.now clamp_lengths },
 }
 
 impl<'a> Facts<'a> {
@@ -85,28 +86,28 @@ impl<'a> Facts<'a> {
 
     /// The terminals of a piece of equipment.
     pub(crate) fn terminals_of(&self, alloc: Global, equipment: Id) -> Result<Vec<Id>, NoMemory>
-        ensures { IfOk result (λ ids. map spec.number_of_id ids.items ≡ network.terminals_of self.now.statements.now equipment.number) }
+        ensures { IfOk result (λ ids. map values.number_of_id ids.items ≡ network.terminals_of self.now.statements.now equipment.number) }
     {
         self.those_of(alloc, self.terminals.at(equipment), Kind::Terminal)
     }
 
     /// The terminals at a node.
     pub(crate) fn terminals_at(&self, alloc: Global, node: Id) -> Result<Vec<Id>, NoMemory>
-        ensures { IfOk result (λ ids. map spec.number_of_id ids.items ≡ network.terminals_at self.now.statements.now node.number) }
+        ensures { IfOk result (λ ids. map values.number_of_id ids.items ≡ network.terminals_at self.now.statements.now node.number) }
     {
         self.those_of(alloc, self.terminals_at.at(node), Kind::Terminal)
     }
 
     /// The cuts of a segment.
     pub(crate) fn cuts_of(&self, alloc: Global, segment: Id) -> Result<Vec<Id>, NoMemory>
-        ensures { IfOk result (λ ids. map spec.number_of_id ids.items ≡ network.cuts_of self.now.statements.now segment.number) }
+        ensures { IfOk result (λ ids. map values.number_of_id ids.items ≡ network.cuts_of self.now.statements.now segment.number) }
     {
         self.those_of(alloc, self.cuts.at(segment), Kind::Cut)
     }
 
     /// The clamps of a segment.
     pub(crate) fn clamps_of(&self, alloc: Global, segment: Id) -> Result<Vec<Id>, NoMemory>
-        ensures { IfOk result (λ ids. map spec.number_of_id ids.items ≡ network.clamps_of self.now.statements.now segment.number) }
+        ensures { IfOk result (λ ids. map values.number_of_id ids.items ≡ network.clamps_of self.now.statements.now segment.number) }
     {
         self.those_of(alloc, self.clamps.at(segment), Kind::Clamp)
     }
@@ -127,7 +128,7 @@ impl<'a> Facts<'a> {
 
     /// The identifiers in rows whose subjects are of a kind.
     fn those_of(&self, alloc: Global, rows: &[Row<Id>], kind: Kind) -> Result<Vec<Id>, NoMemory>
-        ensures { IfOk result (λ ids. map spec.number_of_id ids.items
+        ensures { IfOk result (λ ids. map values.number_of_id ids.items
             ≡ filter (model.is_of self.now.statements.now (spec.kind_test kind)) (map (λ (row : Row Id). row.value.number) rows.now)) }
     {
         let mut ids = Vec::new(alloc);
@@ -149,7 +150,7 @@ impl<'a> Facts<'a> {
 
     /// The lengths that a segment states.
     pub(crate) fn stated_lengths(&self, alloc: Global, segment: Id) -> Result<Vec<Length>, NoMemory>
-        ensures { IfOk result (λ lengths. map spec.mm_of lengths.items ≡ network.stated_lengths self.now.statements.now segment.number) }
+        ensures { IfOk result (λ lengths. map values.mm_of lengths.items ≡ network.stated_lengths self.now.statements.now segment.number) }
     {
         if self.is_of(Kind::Segment, segment) {
             present(alloc, self.lengths.at(segment))
@@ -160,14 +161,14 @@ impl<'a> Facts<'a> {
 
     /// The length of a cut, which is 0 where none is stated.
     pub(crate) fn cut_lengths(&self, alloc: Global, cut: Id) -> Result<Vec<Length>, NoMemory>
-        ensures { IfOk result (λ lengths. map spec.mm_of lengths.items ≡ network.cut_lengths self.now.statements.now cut.number) }
+        ensures { IfOk result (λ lengths. map values.mm_of lengths.items ≡ network.cut_lengths self.now.statements.now cut.number) }
     {
         or_zero(alloc, self.cut_lengths.at(cut))
     }
 
     /// The length of a clamp, which is 0 where none is stated.
     pub(crate) fn clamp_lengths(&self, alloc: Global, clamp: Id) -> Result<Vec<Length>, NoMemory>
-        ensures { IfOk result (λ lengths. map spec.mm_of lengths.items ≡ network.clamp_lengths self.now.statements.now clamp.number) }
+        ensures { IfOk result (λ lengths. map values.mm_of lengths.items ≡ network.clamp_lengths self.now.statements.now clamp.number) }
     {
         or_zero(alloc, self.clamp_lengths.at(clamp))
     }
@@ -175,7 +176,7 @@ impl<'a> Facts<'a> {
 
 /// The lengths in rows, 0 where there is no row.
 fn or_zero(alloc: Global, rows: &[Row<Option<Length>>]) -> Result<Vec<Length>, NoMemory>
-    ensures { IfOk result (λ lengths. map spec.mm_of lengths.items ≡ spec.present_or_zero (map (λ (row : Row (Option Length)). option_map spec.mm_of row.value) rows.now)) }
+    ensures { IfOk result (λ lengths. map values.mm_of lengths.items ≡ spec.present_or_zero (map (λ (row : Row (Option Length)). option_map values.mm_of row.value) rows.now)) }
 {
     let mut lengths = present(alloc, rows)?;
     if rows.is_empty() {

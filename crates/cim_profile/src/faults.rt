@@ -2,11 +2,11 @@
 
 ghost use Rattle.std.specs.Prelude.{◌≡◌, IfOk};
 ghost use Rattle.statement_set.specs.Set.{IsOrdered};
-ghost use Rattle.cim_profile.specs.Model.{about, is_subject};
+ghost use Rattle.cim_model.specs.Model.{about, is_subject};
+ghost use Rattle.cim_profile.specs.FirstBreak.{IsFirstBreak};
 ghost use Rattle.cim_profile.specs.Places.{HoldsPlaces};
-ghost use Rattle.cim_profile.specs.Rules.{IsFirstBreak};
 ghost use Rattle.cim_profile.specs.Subject.{IsSubjectOf};
-ghost use Rattle.cim_profile.specs.Walk.{IsFirstIn, IsLeast, IsLesserBy, breaks_in, lesser_of, run_of};
+ghost use Rattle.cim_profile.specs.Walk.{IsFirstIn, IsLeast, IsLesserBy, breaks_in, lesser_of};
 ghost use Rattle.cim_profile.specs.declared.faults.Stage.TheVariants.{Repeats, Rest};
 
 use crate::crowds::{breaks_crowd, breaks_numbers, breaks_terminals};
@@ -17,6 +17,7 @@ use crate::rules::{
     breaks_form, breaks_once, breaks_owner, breaks_sides, breaks_target, breaks_type,
 };
 use crate::subject::Subject;
+use cim_model::run_len;
 use cim_words::{Id, NoMemory, Statement};
 use statement_set::StatementSet;
 use std::alloc::Global;
@@ -77,19 +78,6 @@ fn least_of(
         rest = after;
     }
     Ok(least)
-}
-
-/// How many statements at the front are about the first one's subject.
-fn run_len(statements: &[Statement]) -> usize
-    ensures { result ≡ run_of statements.now }
-{
-    match statements {
-        [first, ..] => statements
-            .iter()
-            .take_while(|statement| statement.subject == first.subject)
-            .count(),
-        [] => 0,
-    }
 }
 
 /// The fault so far, or that of a later subject with these statements if it breaks an earlier rule.

@@ -4,17 +4,18 @@ ghost use Rattle.std.specs.Prelude.{◌≡◌, List, map, nat_lt, IfOk};
 ghost use Rattle.std.specs.List.{list_any};
 ghost use Rattle.cim_words.specs.declared.statement.Statement.{Statement};
 ghost use Rattle.cim_words.specs.declared.known_prop.KnownProp.TheVariants.{K9, K11};
-ghost use Rattle.cim_profile.specs.Facts.{is_present_and, mm_of};
-ghost use Rattle.cim_profile.specs.Model as model;
+ghost use Rattle.cim_model.specs.Values.{mm_of};
+ghost use Rattle.cim_profile.specs.Facts.{is_present_and};
+ghost use Rattle.cim_model.specs.Model as model;
 ghost use Rattle.cim_profile.specs.Places.{HoldsPlaces, lies_beyond, lies_wrongly};
-ghost use Rattle.cim_profile.specs.Rules as spec;
+ghost use Rattle.cim_model.specs.Profile as spec;
 ghost use Rattle.cim_profile.specs.Subject.{IsSubjectOf};
 
 use crate::facts::Facts;
 use crate::kind::Kind;
 use crate::marks::Places;
-use crate::said::named_by;
 use crate::subject::Subject;
+use cim_model::named_by;
 use cim_words::{Id, KnownProp, Length, NoMemory, Statement};
 use std::alloc::Global;
 

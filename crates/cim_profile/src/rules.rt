@@ -4,16 +4,17 @@ ghost use Rattle.std.specs.Prelude.{◌≡◌, List, IfOk, not};
 ghost use Rattle.std.specs.List.{list_any};
 ghost use Rattle.cim_words.specs.declared.object.Object.{Object};
 ghost use Rattle.cim_words.specs.declared.statement.Statement.{Statement};
-ghost use Rattle.cim_profile.specs.Model.{said_in};
-ghost use Rattle.cim_profile.specs.Rules as spec;
+ghost use Rattle.cim_model.specs.Model.{said_in};
+ghost use Rattle.cim_model.specs.Profile as spec;
 ghost use Rattle.cim_profile.specs.Subject.{IsSubjectOf};
 
 use crate::attributes::{ATTRIBUTES, REFERENCES, VALUES};
 use crate::facts::Facts;
 use crate::forms::has_form;
 use crate::kind::Kind;
-use crate::said::{count, has_one_name, is_by, is_silent};
+use crate::said::{count, has_one_name, is_silent};
 use crate::subject::Subject;
+use cim_model::is_by;
 use cim_words::{KnownProp, NoMemory, Object, Statement};
 use std::alloc::Global;
 

@@ -3,12 +3,12 @@
 ghost use Rattle.std.specs.Prelude.{◌≡◌, ℕ, IfOk, IsTrue, Option, option_map};
 ghost use Rattle.cim_words.specs.declared.class.Class.{Class};
 ghost use Rattle.cim_words.specs.declared.known_prop.KnownProp.TheVariants.{K5};
-ghost use Rattle.cim_profile.specs.Facts.{Holds, HoldsNaming, HoldsTypes, mm_of};
-ghost use Rattle.cim_profile.specs.Network.{number_said, length_said};
+ghost use Rattle.cim_model.specs.Values.{length_said, mm_of, number_said};
+ghost use Rattle.cim_profile.specs.Facts.{Holds, HoldsNaming, HoldsTypes};
 ghost use Rattle.cim_profile.specs.declared.table.Row.{Row};
 
-use crate::said::{class_of, is_by, length_of, named_by, number_of};
 use crate::table::{Row, Table};
+use cim_model::{class_of, is_by, length_of, named_by, number_of};
 use cim_words::{Class, Id, KnownProp, Length, NoMemory, Statement};
 use std::alloc::Global;
 

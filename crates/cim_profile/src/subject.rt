@@ -3,7 +3,7 @@
 ghost use Rattle.std.specs.Prelude.{◌≡◌, List};
 ghost use Rattle.cim_words.specs.declared.statement.Statement.{Statement};
 ghost use Rattle.cim_profile.specs.Facts.{kind_test};
-ghost use Rattle.cim_profile.specs.Model.{is_of};
+ghost use Rattle.cim_model.specs.Model.{is_of};
 ghost use Rattle.cim_profile.specs.Subject.{IsSubjectOf};
 
 use crate::facts::names_any;

@@ -1,9 +1,10 @@
 -- Bytes are one base, or are refused for one reason.
 use Rattle.std.proofs.Common.{◌≡◌, ℕ, ◌+◌, ◌<◌, ◌≤◌, ◌⊎◌, inl, inr, List, length, Option, Some, None, IsTrue, true, false, refl, sym, ap, ◌∙◌, subst, arith}
 use Rattle.std.specs.Prelude.{Contains}
+use Rattle.cim_profile.specs.FirstBreak.{IsAtMost, IsFirstBreak}
 use Rattle.cim_words.specs.declared.identifier.Id.{Id}
 use Rattle.cim_words.specs.declared.statement.Statement.{Statement}
-use Rattle.cim_profile.specs.Rules.{IsFirstBreak, IsFault, IsAtMost}
+use Rattle.cim_model.specs.Profile.{IsFault}
 use Rattle.nt_text.specs.Document.{IsDocument, IsBadDocument}
 use Rattle.nt_text.specs.declared.refusal.LineRefusal.{LineRefusal}
 use Rattle.nt_text.proofs.OneDocument.{one_document, one_bad_document, no_bad_document}

@@ -1,7 +1,7 @@
 -- A base: a document of statements, as a set that breaks no rule of the profile; and why bytes are none.
 use Rattle.std.specs.Prelude.{ℕ, ◌≤◌, ◌<◌, ◌⊎◌, List, length, Contains, Some, None}
+use Rattle.cim_profile.specs.FirstBreak.{IsFirstBreak}
 use Rattle.cim_words.specs.declared.statement.Statement.{Statement}
-use Rattle.cim_profile.specs.Rules.{IsFirstBreak}
 use Rattle.nt_text.specs.declared.refusal.LineRefusal.{LineRefusal}
 use Rattle.nt_text.specs.Document.{IsDocument, IsBadDocument}
 use Rattle.room.specs.declared.status.Status.{Status}

@@ -12,5 +12,6 @@ mod tests;
 
 pub use cim_words::NoMemory;
 pub use lookup::About;
+pub use once::sort_once;
 pub use refusal::SetRefusal;
 pub use set::{StatementSet, one_set};

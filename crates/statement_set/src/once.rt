@@ -15,8 +15,8 @@ pub(crate) fn order_once(statements: &mut Vec<Statement>)
     sort_once(statements);
 }
 
-/// Puts a vector in order and keeps each item once.
-fn sort_once<T: Ord + Drop>(items: &mut Vec<T>)
+/// Puts a vector in order and keeps each item once. It takes no memory.
+pub fn sort_once<T: Ord + Drop>(items: &mut Vec<T>)
     ensures ordered { IsStrictlySortedBy T.cmp items.new.items }
     ensures same { ((x y : T) → T.cmp x y ≡ Equal → x ≡ y) → (x : T) → Contains items.new.items x ↔ Contains items.old.items x }
 {

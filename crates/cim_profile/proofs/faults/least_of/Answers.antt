@@ -1,6 +1,6 @@
 use Rattle.std.proofs.Common.{◌<◌, ◌∙◌, arith, refl}
 use Rattle.cim_profile.specs.Walk.{breaks_in}
-use Rattle.cim_profile.proofs.Runs.{run_within, run_some}
+use Rattle.cim_model.proofs.Runs.{run_within, run_some}
 use Rattle.cim_profile.proofs.Walks.{walk_begins, walk_run, walk_steps, walk_ends}
 use Rattle.cim_profile.proofs.faults.least_of.Goals as goal
 

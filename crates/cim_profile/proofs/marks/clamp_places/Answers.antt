@@ -1,8 +1,8 @@
 use Rattle.std.proofs.Common.{◌∙◌, sym}
 use Rattle.cim_words.specs.Groups.{is_clamp}
 use Rattle.cim_words.specs.declared.known_prop.KnownProp.TheVariants.{K9}
-use Rattle.cim_profile.specs.Model.{is_of}
-use Rattle.cim_profile.specs.Network.{clamp_lengths}
+use Rattle.cim_model.specs.Model.{is_of}
+use Rattle.cim_model.specs.Stated.{clamp_lengths}
 use Rattle.cim_profile.proofs.PlaceLemmas.{no_row, placing_all, placing_more, placing_past}
 use Rattle.cim_profile.proofs.marks.clamp_places.Goals as goal
 

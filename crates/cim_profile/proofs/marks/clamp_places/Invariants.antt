@@ -1,7 +1,7 @@
 use Rattle.std.proofs.Common.{take}
 use Rattle.cim_words.specs.Groups.{is_clamp}
-use Rattle.cim_profile.specs.Model.{is_of}
-use Rattle.cim_profile.specs.Network.{clamp_lengths}
+use Rattle.cim_model.specs.Model.{is_of}
+use Rattle.cim_model.specs.Stated.{clamp_lengths}
 use Rattle.cim_profile.proofs.PlaceLemmas.{IsPlacing}
 use Rattle.cim_profile.proofs.marks.clamp_places.Given as goal
 

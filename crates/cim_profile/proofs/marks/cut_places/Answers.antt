@@ -1,8 +1,8 @@
 use Rattle.std.proofs.Common.{◌∙◌, sym}
 use Rattle.cim_words.specs.Groups.{is_cut}
 use Rattle.cim_words.specs.declared.known_prop.KnownProp.TheVariants.{K11}
-use Rattle.cim_profile.specs.Model.{is_of}
-use Rattle.cim_profile.specs.Network.{cut_lengths}
+use Rattle.cim_model.specs.Model.{is_of}
+use Rattle.cim_model.specs.Stated.{cut_lengths}
 use Rattle.cim_profile.proofs.PlaceLemmas.{no_row, placing_all, placing_more, placing_past}
 use Rattle.cim_profile.proofs.marks.cut_places.Goals as goal
 

@@ -4,7 +4,7 @@ use Rattle.std.specs.List.{list_any}
 use Rattle.std.proofs.lemmas.Iterator.{YieldsList-from_slice}
 use Rattle.std.proofs.lemmas.Iterator.Search.{any_from_yields_List}
 use Rattle.cim_words.specs.declared.length.Length.{Length}
-use Rattle.cim_profile.specs.Facts.{mm_of}
+use Rattle.cim_model.specs.Values.{mm_of}
 use Rattle.cim_profile.proofs.Lists.{any_read}
 use Rattle.cim_profile.proofs.places.is_beyond.Goals as goal
 

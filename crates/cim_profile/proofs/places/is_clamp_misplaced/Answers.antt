@@ -1,6 +1,6 @@
 use Rattle.std.proofs.Common.{map, ◌∙◌, sym}
 use Rattle.cim_words.specs.declared.known_prop.KnownProp.TheVariants.{K9}
-use Rattle.cim_profile.specs.Facts.{mm_of}
+use Rattle.cim_model.specs.Values.{mm_of}
 use Rattle.cim_profile.specs.Places.{lies_beyond}
 use Rattle.cim_profile.proofs.RuleLemmas.{any_of_subject, any_here, any_nowhere}
 use Rattle.cim_profile.proofs.places.is_clamp_misplaced.Goals as goal

@@ -2,8 +2,9 @@ use Rattle.std.proofs.Common.{◌≡◌, map, take, false}
 use Rattle.std.specs.List.{list_any}
 use Rattle.cim_words.specs.declared.known_prop.KnownProp.TheVariants.{K9}
 use Rattle.cim_words.specs.declared.statement.Statement.{Statement}
-use Rattle.cim_profile.specs.Facts.{is_present_and, mm_of}
-use Rattle.cim_profile.specs.Model.{named_by}
+use Rattle.cim_model.specs.Values.{mm_of}
+use Rattle.cim_profile.specs.Facts.{is_present_and}
+use Rattle.cim_model.specs.Model.{named_by}
 use Rattle.cim_profile.specs.Places.{lies_beyond}
 use Rattle.cim_profile.proofs.places.is_clamp_misplaced.Given as goal
 

@@ -3,7 +3,7 @@ use Rattle.std.specs.List.{list_any}
 use Rattle.std.proofs.lemmas.Iterator.{YieldsList-from_slice}
 use Rattle.std.proofs.lemmas.Iterator.Search.{any_from_yields_List}
 use Rattle.cim_words.specs.declared.length.Length.{Length}
-use Rattle.cim_profile.specs.Network.{cuts_of, clamps_of, cut_lengths, clamp_lengths}
+use Rattle.cim_model.specs.Stated.{cuts_of, clamps_of, cut_lengths, clamp_lengths}
 use Rattle.cim_profile.specs.Places.{is_at, is_other}
 use Rattle.cim_profile.proofs.PlaceLemmas.{shared_by}
 use Rattle.cim_profile.proofs.places.shares_place.Goals as goal

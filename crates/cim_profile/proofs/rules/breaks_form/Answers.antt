@@ -1,7 +1,7 @@
 use Rattle.std.proofs.Common.{rules}
 use Rattle.std.proofs.lemmas.Iterator.{YieldsList-from_slice}
 use Rattle.std.proofs.lemmas.Iterator.Search.{any_from_yields_List}
-use Rattle.cim_profile.specs.Rules.{states_wrongly}
+use Rattle.cim_model.specs.Profile.{states_wrongly}
 use Rattle.cim_profile.specs.declared.attributes.TheConstants.{VALUES}
 use Rattle.cim_profile.proofs.rules.breaks_form.Goals as goal
 

@@ -4,8 +4,8 @@ use Rattle.std.proofs.lemmas.Iterator.{YieldsList-from_slice}
 use Rattle.std.proofs.lemmas.Iterator.Search.{any_from_yields_List}
 use Rattle.cim_words.specs.declared.known_prop.KnownProp.TheVariants.{K19}
 use Rattle.cim_words.specs.declared.statement.Statement.{Statement}
-use Rattle.cim_profile.specs.Model.{is_by, said_in}
-use Rattle.cim_profile.specs.Rules.{has_other_side}
+use Rattle.cim_model.specs.Model.{is_by, said_in}
+use Rattle.cim_model.specs.Profile.{has_other_side}
 use Rattle.cim_profile.proofs.Lists.{any_said}
 use Rattle.cim_profile.proofs.RuleLemmas.{with_passed}
 use Rattle.cim_profile.proofs.rules.breaks_sides.Goals as goal

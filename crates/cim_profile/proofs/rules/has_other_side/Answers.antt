@@ -5,8 +5,8 @@ use Rattle.std.proofs.lemmas.Iterator.Search.{any_from_yields_List}
 use Rattle.cim_words.specs.declared.known_prop.KnownProp.TheVariants.{K20}
 use Rattle.cim_words.specs.declared.object.Object.{Object}
 use Rattle.cim_words.specs.declared.statement.Statement.{Statement}
-use Rattle.cim_profile.specs.Model.{is_by, said_in}
-use Rattle.cim_profile.specs.Rules.{same_object}
+use Rattle.cim_model.specs.Model.{is_by, said_in}
+use Rattle.cim_model.specs.Profile.{same_object}
 use Rattle.cim_profile.proofs.Lists.{any_said}
 use Rattle.cim_profile.proofs.rules.has_other_side.Goals as goal
 

@@ -3,8 +3,8 @@ use Rattle.std.proofs.lemmas.Iterator.{YieldsList-from_slice}
 use Rattle.std.proofs.lemmas.Iterator.Search.{any_from_yields_List}
 use Rattle.cim_words.specs.declared.object.Object.{Object}
 use Rattle.cim_words.specs.declared.statement.Statement.{Statement}
-use Rattle.cim_profile.specs.Model.{is_by}
-use Rattle.cim_profile.specs.Rules.{has_form}
+use Rattle.cim_model.specs.Model.{is_by}
+use Rattle.cim_model.specs.Profile.{has_form}
 use Rattle.cim_profile.proofs.Lists.{any_said}
 use Rattle.cim_profile.proofs.rules.says_wrongly.Goals as goal
 

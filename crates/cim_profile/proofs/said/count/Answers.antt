@@ -4,7 +4,7 @@ use Rattle.std.proofs.lemmas.Iterator.{YieldsList-from_slice}
 use Rattle.std.proofs.lemmas.Iterator.Consumers.{YieldsList-from_filter, count_from_yields_List}
 use Rattle.std.proofs.lemmas.List.{length-map}
 use Rattle.cim_words.specs.declared.statement.Statement.{Statement}
-use Rattle.cim_profile.specs.Model as spec
+use Rattle.cim_model.specs.Model as spec
 use Rattle.cim_profile.proofs.said.count.Goals as goal
 
 pub returns : goal.returns

@@ -3,7 +3,7 @@ use Rattle.std.proofs.lemmas.Iterator.{YieldsList-from_slice}
 use Rattle.std.proofs.lemmas.Iterator.Search.{any_from_yields_List}
 use Rattle.cim_words.specs.declared.known_prop.KnownProp.TheVariants.{K1}
 use Rattle.cim_words.specs.declared.statement.Statement.{Statement}
-use Rattle.cim_profile.specs.Model as spec
+use Rattle.cim_model.specs.Model as spec
 use Rattle.cim_profile.proofs.Lists.{any_said}
 use Rattle.cim_profile.proofs.Names.{is_name, one_name}
 use Rattle.cim_profile.proofs.said.has_one_name.Goals as goal

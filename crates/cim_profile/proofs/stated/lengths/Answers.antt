@@ -1,8 +1,7 @@
 use Rattle.std.proofs.Common.{◌∙◌, List, Option, option_map, sym, refl}
 use Rattle.std.proofs.lemmas.Result.{IfOk-weaker}
 use Rattle.cim_words.specs.declared.length.Length.{Length}
-use Rattle.cim_profile.specs.Facts.{mm_of}
-use Rattle.cim_profile.specs.Network.{length_said}
+use Rattle.cim_model.specs.Values.{length_said, mm_of}
 use Rattle.cim_profile.specs.declared.table.Row.{Row}
 use Rattle.cim_profile.proofs.Held.{holds_kept, holds_more, holds_past}
 use Rattle.cim_profile.proofs.stated.lengths.Goals as goal

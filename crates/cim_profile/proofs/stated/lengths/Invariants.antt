@@ -1,6 +1,6 @@
 use Rattle.std.proofs.Common.{option_map, take}
-use Rattle.cim_profile.specs.Facts.{Holds, mm_of}
-use Rattle.cim_profile.specs.Network.{length_said}
+use Rattle.cim_model.specs.Values.{length_said, mm_of}
+use Rattle.cim_profile.specs.Facts.{Holds}
 use Rattle.cim_profile.proofs.stated.lengths.Given as goal
 
 abbrev pub invariant-loop-statement : goal.invariant-loop-statement

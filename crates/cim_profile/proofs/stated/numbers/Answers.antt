@@ -1,7 +1,7 @@
 use Rattle.std.proofs.Common.{◌∙◌, List, Option, ℕ, sym, refl}
 use Rattle.std.proofs.lemmas.Result.{IfOk-weaker}
 use Rattle.cim_words.specs.declared.known_prop.KnownProp.TheVariants.{K5}
-use Rattle.cim_profile.specs.Network.{number_said}
+use Rattle.cim_model.specs.Values.{number_said}
 use Rattle.cim_profile.specs.declared.table.Row.{Row}
 use Rattle.cim_profile.proofs.Held.{holds_kept, holds_more, holds_past}
 use Rattle.cim_profile.proofs.stated.numbers.Goals as goal

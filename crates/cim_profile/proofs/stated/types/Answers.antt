@@ -3,7 +3,7 @@ use Rattle.std.proofs.lemmas.List.Filters.{dedup_is}
 use Rattle.std.proofs.lemmas.Result.{IfOk-weaker}
 use Rattle.cim_words.specs.declared.class.Class.{Class}
 use Rattle.cim_words.specs.declared.known_prop.KnownProp.TheVariants.{K1}
-use Rattle.cim_profile.specs.Model.{class_named}
+use Rattle.cim_model.specs.Model.{class_named}
 use Rattle.cim_profile.specs.declared.table.Row.{Row}
 use Rattle.cim_profile.proofs.Held.{holds_more, holds_past}
 use Rattle.cim_profile.proofs.TypeRows.{types_kept}

@@ -2,7 +2,7 @@ use Rattle.std.proofs.Common.{Option, take}
 use Rattle.cim_words.specs.declared.class.Class.{Class}
 use Rattle.cim_words.specs.declared.known_prop.KnownProp.TheVariants.{K1}
 use Rattle.cim_profile.specs.Facts.{Holds}
-use Rattle.cim_profile.specs.Model.{class_named}
+use Rattle.cim_model.specs.Model.{class_named}
 use Rattle.cim_profile.proofs.stated.types.Given as goal
 
 abbrev pub invariant-loop-statement : goal.invariant-loop-statement

@@ -3,7 +3,7 @@ use Rattle.std.specs.List.{filter}
 use Rattle.std.proofs.lemmas.Result.{IfOk-weaker}
 use Rattle.cim_words.specs.Groups.{is_clamp}
 use Rattle.cim_words.specs.declared.known_prop.KnownProp.TheVariants.{K9}
-use Rattle.cim_profile.specs.Model.{is_of, naming}
+use Rattle.cim_model.specs.Model.{is_of, naming}
 use Rattle.cim_profile.proofs.RowValues.{names_read}
 use Rattle.cim_profile.proofs.facts.Facts.clamps_of.Goals as goal
 

@@ -1,7 +1,7 @@
 use Rattle.std.proofs.Common.{◌∙◌}
 use Rattle.std.proofs.lemmas.Result.{IfOk-weaker}
 use Rattle.cim_words.specs.declared.known_prop.KnownProp.TheVariants.{K12}
-use Rattle.cim_profile.specs.Model.{said}
+use Rattle.cim_model.specs.Model.{said}
 use Rattle.cim_profile.proofs.RowValues.{zero_read}
 use Rattle.cim_profile.proofs.facts.Facts.cut_lengths.Goals as goal
 

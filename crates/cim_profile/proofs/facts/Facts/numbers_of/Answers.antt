@@ -1,8 +1,8 @@
 use Rattle.std.proofs.Common.{◌∙◌, ℕ, Option, map}
 use Rattle.std.proofs.lemmas.Result.{IfOk-weaker}
 use Rattle.cim_words.specs.declared.known_prop.KnownProp.TheVariants.{K5}
-use Rattle.cim_profile.specs.Model.{said}
-use Rattle.cim_profile.specs.Network.{number_said}
+use Rattle.cim_model.specs.Model.{said}
+use Rattle.cim_model.specs.Values.{number_said}
 use Rattle.cim_profile.specs.declared.table.Row.{Row}
 use Rattle.cim_profile.proofs.RowValues.{values_read}
 use Rattle.cim_profile.proofs.facts.Facts.numbers_of.Goals as goal

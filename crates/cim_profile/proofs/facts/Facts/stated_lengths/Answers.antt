@@ -2,8 +2,8 @@ use Rattle.std.proofs.Common.{◌∙◌, Option, map, sym, ap}
 use Rattle.std.proofs.lemmas.Result.{IfOk-weaker}
 use Rattle.cim_words.specs.declared.known_prop.KnownProp.TheVariants.{K8}
 use Rattle.cim_words.specs.declared.length.Length.{Length}
-use Rattle.cim_profile.specs.Facts.{mm_of}
-use Rattle.cim_profile.specs.Model.{said}
+use Rattle.cim_model.specs.Model.{said}
+use Rattle.cim_model.specs.Values.{mm_of}
 use Rattle.cim_profile.specs.declared.table.Row.{Row}
 use Rattle.cim_profile.proofs.RowValues.{lengths_read}
 use Rattle.cim_profile.proofs.facts.Facts.stated_lengths.Goals as goal

@@ -3,7 +3,7 @@ use Rattle.std.specs.List.{filter}
 use Rattle.std.proofs.lemmas.Result.{IfOk-weaker}
 use Rattle.cim_words.specs.Groups.{is_terminal}
 use Rattle.cim_words.specs.declared.known_prop.KnownProp.TheVariants.{K3}
-use Rattle.cim_profile.specs.Model.{is_of, naming}
+use Rattle.cim_model.specs.Model.{is_of, naming}
 use Rattle.cim_profile.proofs.RowValues.{names_read}
 use Rattle.cim_profile.proofs.facts.Facts.terminals_at.Goals as goal
 

@@ -3,7 +3,7 @@ use Rattle.std.specs.List.{filter}
 use Rattle.std.proofs.lemmas.List.{take_all}
 use Rattle.cim_words.specs.declared.identifier.Id.{Id}
 use Rattle.cim_profile.specs.Facts as spec
-use Rattle.cim_profile.specs.Model as model
+use Rattle.cim_model.specs.Model as model
 use Rattle.cim_profile.specs.declared.table.Row.{Row}
 use Rattle.cim_profile.proofs.RowValues.{kept_more, kept_past}
 use Rattle.cim_profile.proofs.facts.Facts.those_of.Goals as goal

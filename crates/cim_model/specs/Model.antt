@@ -2,6 +2,7 @@
 use Rattle.std.specs.Prelude.{ℕ, List, [], ◌∷◌, map, Bool, true, false, ◌&&◌, ◌==◌, if◌then◌else◌, Option, Some, None}
 use Rattle.std.specs.List.{filter, filter_map, list_any}
 use Rattle.cim_words.specs.Class.{class_of}
+use Rattle.cim_words.specs.Groups.{counts_on}
 use Rattle.cim_words.specs.KnownProp.{known_row}
 use Rattle.cim_words.specs.declared.class.Class.{Class}
 use Rattle.cim_words.specs.declared.known_prop.KnownProp.{KnownProp}
@@ -76,3 +77,12 @@ types m x = filter_map class_named (said m x K1)
 -- whether a subject is of a class that passes a test
 abbrev pub is_of : List Statement → (Class → Bool) → ℕ → Bool
 is_of m test x = list_any test (types m x)
+
+-- whether a property counts on a subject: it is of a class of its row, and elsewhere the property is carried without effect
+abbrev pub counts : List Statement → ℕ → KnownProp → Bool
+counts m x k = is_of m (counts_on k) x
+
+-- the subjects of a model, each once; in an ordered list ascending
+abbrev pub subjects : List Statement → List ℕ
+subjects [] = []
+subjects (s ∷ rest) = if is_subject rest s.subject.number then subjects rest else s.subject.number ∷ subjects rest

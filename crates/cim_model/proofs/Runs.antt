@@ -11,8 +11,8 @@ use Rattle.std.proofs.lemmas.List.Sums.{prefix_len-le-length}
 use Rattle.cim_words.specs.Order.{statement_order, prop_order, object_order}
 use Rattle.cim_words.specs.declared.statement.Statement.{Statement}
 use Rattle.statement_set.specs.Set.{IsOrdered}
-use Rattle.cim_profile.specs.Model.{about, is_about, is_subject}
-use Rattle.cim_profile.specs.Walk.{run_of}
+use Rattle.cim_model.specs.Model.{about, is_about, is_subject}
+use Rattle.cim_model.specs.Runs.{run_of}
 
 -- ---- the front that passes a test, and what stands after it
 
@@ -70,11 +70,11 @@ pub or_right : (a b : Bool) → b ≡ true → (a || b) ≡ true
 or_right true b h = refl
 or_right false b h = h
 
-neither : (a b : Bool) → (a || b) ≡ false → (a ≡ false) × (b ≡ false)
+pub neither : (a b : Bool) → (a || b) ≡ false → (a ≡ false) × (b ≡ false)
 neither true b h = absurd cc
 neither false b h = (refl, h)
 
-filter_none : {X : Type 0} (p : X → Bool) (xs : List X) → list_any p xs ≡ false → filter p xs ≡ []
+pub filter_none : {X : Type 0} (p : X → Bool) (xs : List X) → list_any p xs ≡ false → filter p xs ≡ []
 filter_none p [] h = refl
 filter_none p (x ∷ xs) h = let no = neither (p x) (list_any p xs) h in rw no.0 (filter_none p xs no.1)
 

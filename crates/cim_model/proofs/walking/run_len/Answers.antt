@@ -3,9 +3,9 @@ use Rattle.std.proofs.lemmas.Iterator.{YieldsList-from_slice}
 use Rattle.std.proofs.lemmas.Iterator.Consumers.{count_from_yields_List}
 use Rattle.std.proofs.lemmas.Iterator.Search.{YieldsList-from_take_while}
 use Rattle.std.proofs.lemmas.List.Folds.{length-prefix_len}
-use Rattle.cim_profile.specs.Model.{is_about}
-use Rattle.cim_profile.proofs.Runs.{run_is}
-use Rattle.cim_profile.proofs.faults.run_len.Goals as goal
+use Rattle.cim_model.specs.Model.{is_about}
+use Rattle.cim_model.proofs.Runs.{run_is}
+use Rattle.cim_model.proofs.walking.run_len.Goals as goal
 
 pub returns-in-len1-up : goal.returns-in-len1-up
 returns-in-len1-up c =

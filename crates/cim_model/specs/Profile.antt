@@ -1,24 +1,27 @@
 -- The rules of the profile, of this project: when a subject of a model is at fault by each of them.
-use Rattle.std.specs.Prelude.{ℕ, ◌+◌, ◌≡◌, ◌<◌, ◌≤◌, ◌⊎◌, IsTrue, Option, Some, None, List, [], ◌∷◌, length, Bool, true, false, not, ◌&&◌, ◌||◌, ◌==◌, nat_lt, is_some, nat_eq, slice_index_or}
+use Rattle.std.specs.Prelude.{ℕ, ◌+◌, IsTrue, List, [], ◌∷◌, length, Bool, true, false, not, ◌&&◌, ◌||◌, ◌==◌, nat_lt, is_some, nat_eq, slice_index_or}
 use Rattle.std.specs.List.{list_any}
 use Rattle.std.specs.Ordering.{is_eq}
-use Rattle.cim_words.specs.Groups.{counts_on, is_terminal, is_node, is_segment, is_cut, is_clamp, is_single, has_two_ends, is_part, is_known_class, is_switch_phase}
-use Rattle.cim_words.specs.PhaseNames.{code_iri_set, kind_iri_set}
-use Rattle.cim_words.specs.Values.{truth_of}
+use Rattle.cim_words.specs.Groups.{is_terminal, is_node, is_segment, is_cut, is_clamp, is_single, has_two_ends, is_part, is_known_class, is_switch_phase}
 use Rattle.cim_words.specs.Order.{object_order}
 use Rattle.cim_words.specs.declared.known_prop.KnownProp.{KnownProp}
-use Rattle.cim_words.specs.declared.known_prop.KnownProp.TheVariants.{K1, K2, K3, K4, K5, K6, K7, K8, K9, K10, K11, K12, K14, K15, K16, K17, K18, K19, K20}
+use Rattle.cim_words.specs.declared.known_prop.KnownProp.TheVariants.{K1, K2, K3, K4, K5, K6, K7, K8, K9, K10, K11, K12, K13, K14, K15, K16, K17, K18, K19, K20}
 use Rattle.cim_words.specs.declared.object.Object.{Object}
 use Rattle.cim_words.specs.declared.object.Object.TheVariants as object
 use Rattle.cim_words.specs.declared.statement.Statement.{Statement}
-use Rattle.cim_profile.specs.declared.attributes.TheConstants.{ATTRIBUTES, REFERENCES, VALUES}
-use Rattle.cim_profile.specs.declared.faults.Break.{Break}
-use Rattle.cim_profile.specs.Model.{is_empty, said, is_of, is_subject}
-use Rattle.cim_profile.specs.Network.{terminals_of, terminals_at, cuts_of, clamps_of, number_said, length_said, numbers_of, stated_lengths, cut_lengths, clamp_lengths, ids_said}
+use Rattle.cim_model.specs.Model.{is_empty, said, is_of, is_subject, counts}
+use Rattle.cim_model.specs.Values.{number_said, length_said, truth_said, code_said, kind_said}
+use Rattle.cim_model.specs.Stated.{terminals_of, terminals_at, cuts_of, clamps_of, numbers_of, stated_lengths, cut_lengths, clamp_lengths, ids_said}
 
--- whether a property counts on a subject
-abbrev pub counts : List Statement → ℕ → KnownProp → Bool
-counts m x k = is_of m (counts_on k) x
+-- the properties besides the type, those that name another subject, and those that state a value
+abbrev pub attributes : List KnownProp
+attributes = K2 ∷ K3 ∷ K4 ∷ K5 ∷ K6 ∷ K7 ∷ K8 ∷ K9 ∷ K10 ∷ K11 ∷ K12 ∷ K13 ∷ K14 ∷ K15 ∷ K16 ∷ K17 ∷ K18 ∷ K19 ∷ K20 ∷ []
+
+abbrev pub references : List KnownProp
+references = K2 ∷ K3 ∷ K9 ∷ K11 ∷ K13 ∷ K15 ∷ K17 ∷ []
+
+abbrev pub values : List KnownProp
+values = K4 ∷ K5 ∷ K6 ∷ K7 ∷ K8 ∷ K10 ∷ K12 ∷ K14 ∷ K16 ∷ K18 ∷ K19 ∷ K20 ∷ []
 
 -- Rule 1. What has a class of the table, or is named by a terminal as its equipment, has one type statement, and that names a class.
 abbrev pub is_one_name : List Object → Bool
@@ -33,7 +36,7 @@ abbrev pub states_twice : List Statement → ℕ → KnownProp → Bool
 states_twice m x k = nat_lt 1 (length (said m x k)) && counts m x k
 
 abbrev pub breaks_once : List Statement → ℕ → Bool
-breaks_once m x = list_any (states_twice m x) ATTRIBUTES
+breaks_once m x = list_any (states_twice m x) attributes
 
 -- Rule 3. A terminal names its equipment, a clamp and a cut their segment.
 abbrev pub breaks_owner : List Statement → ℕ → Bool
@@ -61,7 +64,7 @@ abbrev pub names_wrongly : List Statement → ℕ → KnownProp → Bool
 names_wrongly m x k = list_any (λ o. not (names_target m k o)) (said m x k) && counts m x k
 
 abbrev pub breaks_target : List Statement → ℕ → Bool
-breaks_target m x = list_any (names_wrongly m x) REFERENCES
+breaks_target m x = list_any (names_wrongly m x) references
 
 -- Rule 5. A segment or switch has two terminals, what is single has one, and other equipment has at most 64.
 abbrev pub breaks_terminals : List Statement → ℕ → Bool
@@ -88,41 +91,26 @@ abbrev pub breaks_numbers : List Statement → ℕ → Bool
 breaks_numbers m x = (is_of m is_segment x || is_of m is_cut x) && are_misnumbered m x (terminals_of m x)
 
 -- Rule 7. A value is of the form that its property asks for.
-abbrev pub is_code_name : Object → Bool
-is_code_name (object.Name text) = is_some (code_iri_set text)
-is_code_name (object.Id id) = false
-is_code_name (object.Text text) = false
-
-abbrev pub is_kind_name : Object → Bool
-is_kind_name (object.Name text) = is_some (kind_iri_set text)
-is_kind_name (object.Id id) = false
-is_kind_name (object.Text text) = false
-
-abbrev pub is_truth : Object → Bool
-is_truth (object.Text text) = is_some (truth_of text)
-is_truth (object.Id id) = false
-is_truth (object.Name text) = false
-
 abbrev pub has_form : KnownProp → Object → Bool
-has_form K4 o = is_code_name o
+has_form K4 o = is_some (code_said o)
 has_form K5 o = is_some (number_said o)
-has_form K6 o = is_truth o
-has_form K7 o = is_truth o
+has_form K6 o = is_some (truth_said o)
+has_form K7 o = is_some (truth_said o)
 has_form K8 o = is_some (length_said o)
 has_form K10 o = is_some (length_said o)
 has_form K12 o = is_some (length_said o)
-has_form K14 o = is_kind_name o
-has_form K16 o = is_kind_name o
-has_form K18 o = is_truth o
-has_form K19 o = is_kind_name o
-has_form K20 o = is_kind_name o
+has_form K14 o = is_some (kind_said o)
+has_form K16 o = is_some (kind_said o)
+has_form K18 o = is_some (truth_said o)
+has_form K19 o = is_some (kind_said o)
+has_form K20 o = is_some (kind_said o)
 has_form _ o = true
 
 abbrev pub states_wrongly : List Statement → ℕ → KnownProp → Bool
 states_wrongly m x k = list_any (λ o. not (has_form k o)) (said m x k) && counts m x k
 
 abbrev pub breaks_form : List Statement → ℕ → Bool
-breaks_form m x = list_any (states_wrongly m x) VALUES
+breaks_form m x = list_any (states_wrongly m x) values
 
 -- Rule 8. A cut or a clamp lies within its segment's stated length, and a cut shares its length with no other cut or clamp of its segment.
 abbrev pub is_beyond : List ℕ → List ℕ → Bool
@@ -184,11 +172,6 @@ pub record IsFault (m : List Statement) (rule x : ℕ) : Type 0 where
   pub subject : IsTrue (is_subject m x)
   pub broken : IsTrue (breaks m rule x)
 
--- a fault stands before another by its rule, and then by its subject
-abbrev pub IsAtMost : ℕ → ℕ → ℕ → ℕ → Type 0
-IsAtMost rule x other y = (rule < other) ⊎ ((rule ≡ other) × (x ≤ y))
-
--- the least fault of a model, or none where it breaks no rule
-abbrev pub IsFirstBreak : List Statement → Option Break → Type 0
-IsFirstBreak m None = (rule x : ℕ) → IsFault m rule x → ⊥
-IsFirstBreak m (Some b) = IsFault m b.rule b.subject.number × ((rule x : ℕ) → IsFault m rule x → IsAtMost b.rule b.subject.number rule x)
+-- a model without fault breaks no rule
+abbrev pub IsFaultless : List Statement → Type 0
+IsFaultless m = (rule x : ℕ) → IsFault m rule x → ⊥

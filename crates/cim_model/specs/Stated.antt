@@ -1,15 +1,13 @@
 -- Terminals, marks and values of a model, as the rules of the profile speak of them.
-use Rattle.std.specs.Prelude.{ℕ, List, [], ◌∷◌, Option, None, if◌then◌else◌}
+use Rattle.std.specs.Prelude.{ℕ, List, [], ◌∷◌, if◌then◌else◌}
 use Rattle.std.specs.List.{filter, filter_map}
 use Rattle.cim_words.specs.Groups.{is_terminal, is_cut, is_clamp, is_segment}
-use Rattle.cim_words.specs.Length.{length_of}
-use Rattle.cim_words.specs.Values.{sequence_number}
 use Rattle.cim_words.specs.declared.known_prop.KnownProp.{KnownProp}
 use Rattle.cim_words.specs.declared.known_prop.KnownProp.TheVariants.{K2, K3, K5, K8, K9, K10, K11, K12}
 use Rattle.cim_words.specs.declared.object.Object.{Object}
-use Rattle.cim_words.specs.declared.object.Object.TheVariants as object
 use Rattle.cim_words.specs.declared.statement.Statement.{Statement}
-use Rattle.cim_profile.specs.Model.{said, naming, is_of, id_said}
+use Rattle.cim_model.specs.Model.{said, naming, is_of, id_said}
+use Rattle.cim_model.specs.Values.{number_said, length_said}
 
 -- the terminals of a piece of equipment, and those at a node
 abbrev pub terminals_of : List Statement → ℕ → List ℕ
@@ -24,17 +22,6 @@ cuts_of m x = filter (is_of m is_cut) (naming m K11 x)
 
 abbrev pub clamps_of : List Statement → ℕ → List ℕ
 clamps_of m x = filter (is_of m is_clamp) (naming m K9 x)
-
--- the value of an object that reads as a sequence number, and as a length
-abbrev pub number_said : Object → Option ℕ
-number_said (object.Text text) = sequence_number text
-number_said (object.Id id) = None
-number_said (object.Name text) = None
-
-abbrev pub length_said : Object → Option ℕ
-length_said (object.Text text) = length_of text
-length_said (object.Id id) = None
-length_said (object.Name text) = None
 
 -- the sequence numbers that a terminal states
 abbrev pub numbers_of : List Statement → ℕ → List ℕ

@@ -1,0 +1,86 @@
+-- What the rules of the profile leave a subject of a model without fault to say.
+use Rattle.std.proofs.Common.{◌≡◌, ℕ, inl, inr, List, [], ◌∷◌, length, Bool, true, false, not, ◌&&◌, ◌||◌, nat_lt, refl, ap, arith, ltb-false}
+use Rattle.std.specs.List.{filter_map, list_any}
+use Rattle.cim_words.specs.Groups.{is_terminal, is_clamp, is_cut, is_known_class}
+use Rattle.cim_words.specs.declared.class.Class.{Class}
+use Rattle.cim_words.specs.declared.known_prop.KnownProp.{KnownProp}
+use Rattle.cim_words.specs.declared.known_prop.KnownProp.TheVariants.{K1, K2, K9, K11}
+use Rattle.cim_words.specs.declared.object.Object.{Object}
+use Rattle.cim_words.specs.declared.object.Object.TheVariants as object
+use Rattle.cim_words.specs.declared.statement.Statement.{Statement}
+use Rattle.cim_model.specs.Model.{class_named, counts, is_empty, is_of, is_subject, said, types}
+use Rattle.cim_model.specs.Profile.{IsFaultless, attributes, breaks, breaks_once, breaks_owner, breaks_target, breaks_type, is_one_name, names_target, names_wrongly, references, states_twice}
+use Rattle.cim_model.specs.Stated.{terminals_of}
+use Rattle.cim_model.proofs.ListMembers.{Among, among_any}
+use Rattle.cim_model.proofs.Runs.{not_true, or_right}
+use Rattle.cim_model.proofs.SaidLemmas.{class_subject, said_subject}
+
+-- a subject breaks no rule
+pub keeps : (m : List Statement) (rule x : ℕ) → IsFaultless m → is_subject m x ≡ true → breaks m rule x ≡ false
+keeps m rule x faultless subject = not_true (breaks m rule x) (λ h. faultless rule x (record { subject = subject; broken = h }))
+
+pub passes_unless : (a b : Bool) → (not a && b) ≡ false → b ≡ true → a ≡ true
+passes_unless true b h is = refl
+passes_unless false b h is = absurd cc
+
+fails_if : (a b : Bool) → (a && b) ≡ false → b ≡ true → a ≡ false
+fails_if true b h is = absurd cc
+fails_if false b h is = refl
+
+pub none_passes : {X : Type 0} (p : X → Bool) (xs : List X) (x : X) → list_any p xs ≡ false → Among xs x → p x ≡ false
+none_passes p xs x none there = not_true (p x) (λ passes. let some : list_any p xs ≡ true = among_any p xs x there passes in cc)
+
+not_failed : (b : Bool) → not b ≡ false → b ≡ true
+not_failed true h = refl
+not_failed false h = absurd cc
+
+pub among_some : {X : Type 0} (xs : List X) (x : X) → Among xs x → is_empty xs ≡ false
+among_some [] x h = absurd h
+among_some (y ∷ ys) x h = refl
+
+pub some_among : {X : Type 0} (xs : List X) → is_empty xs ≡ false → (x : X) × Among xs x
+some_among [] h = absurd cc
+some_among (y ∷ ys) h = (y, inl refl)
+
+-- what has a terminal is of one class
+one_name_types : (os : List Object) → is_one_name os ≡ true → (c : Class) × (filter_map class_named os ≡ c ∷ [])
+one_name_types [] h = absurd cc
+one_name_types (object.Name text ∷ []) h = (_, refl)
+one_name_types (object.Name text ∷ o ∷ os) h = absurd cc
+one_name_types (object.Id id ∷ os) h = absurd cc
+one_name_types (object.Text text ∷ os) h = absurd cc
+
+pub one_class : (m : List Statement) (x t : ℕ) → IsFaultless m → is_subject m x ≡ true → Among (terminals_of m x) t → (c : Class) × (types m x ≡ c ∷ [])
+one_class m x t faultless subject has =
+    let kept : breaks_type m x ≡ false = keeps m 1 x faultless subject in
+    one_name_types (said m x K1) (passes_unless (is_one_name (said m x K1)) _ kept (or_right (is_of m is_known_class x) _ (ap not (among_some (terminals_of m x) t has))))
+
+-- what a subject says by a property that counts on it is all that it says by it
+only_one : {X : Type 0} (xs : List X) (x : X) → nat_lt 1 (length xs) ≡ false → Among xs x → xs ≡ x ∷ []
+only_one [] x few there = absurd there
+only_one (y ∷ []) x few (inl is) = ap (λ (z : _). z ∷ []) is
+only_one (y ∷ []) x few (inr none) = absurd none
+only_one (y ∷ z ∷ xs) x few there = absurd (omega (arith, ltb-false))
+
+pub said_once : (m : List Statement) (x : ℕ) (k : KnownProp) (o : Object) → IsFaultless m → Among attributes k → counts m x k ≡ true → Among (said m x k) o → said m x k ≡ o ∷ []
+said_once m x k o faultless listed counted there =
+    let kept : breaks_once m x ≡ false = keeps m 2 x faultless (said_subject m x k o there) in
+    only_one (said m x k) o (fails_if (nat_lt 1 (length (said m x k))) (counts m x k) (none_passes (states_twice m x) attributes k kept listed) counted) there
+
+-- a terminal says something by the property of its equipment
+says_one : (a b c d e f : Bool) → (a && b || c && d || e && f) ≡ false → a ≡ true → b ≡ false
+says_one true true c d e f h is = absurd cc
+says_one true false c d e f h is = refl
+says_one false b c d e f h is = absurd cc
+
+pub owner_said : (m : List Statement) (t : ℕ) → IsFaultless m → is_of m is_terminal t ≡ true → (o : Object) × Among (said m t K2) o
+owner_said m t faultless terminal =
+    let kept : breaks_owner m t ≡ false = keeps m 3 t faultless (class_subject m is_terminal t terminal) in
+    some_among (said m t K2) (says_one (is_of m is_terminal t) (is_empty (said m t K2)) (is_of m is_clamp t) (is_empty (said m t K9)) (is_of m is_cut t) (is_empty (said m t K11)) kept terminal)
+
+-- what a reference names is of the right class
+pub target_said : (m : List Statement) (x : ℕ) (k : KnownProp) (o : Object) → IsFaultless m → Among references k → counts m x k ≡ true → Among (said m x k) o → names_target m k o ≡ true
+target_said m x k o faultless listed counted there =
+    let kept : breaks_target m x ≡ false = keeps m 4 x faultless (said_subject m x k o there) in
+    let right : list_any (λ o. not (names_target m k o)) (said m x k) ≡ false = fails_if (list_any (λ o. not (names_target m k o)) (said m x k)) (counts m x k) (none_passes (names_wrongly m x) references k kept listed) counted in
+    not_failed (names_target m k o) (none_passes (λ o. not (names_target m k o)) (said m x k) o right there)

@@ -1,0 +1,11 @@
+pub mod Classes
+pub mod ContainsCases
+pub mod FaultlessSubjects
+pub mod FaultlessTerminals
+pub mod ListMembers
+pub mod OneTrace
+pub mod Runs
+pub mod SaidLemmas
+pub mod SubjectLists
+pub mod TerminalSides
+pub mod WalkInduction

@@ -1,0 +1,168 @@
+-- Ordering the terminals of equipment by side loses none of them.
+use Rattle.std.proofs.Common.{◌≡◌, ℕ, ◌⊎◌, inl, inr, List, [], ◌∷◌, ◌++◌, length, Bool, true, false, not, ◌&&◌, ◌||◌, ◌==◌, cond, Option, Some, None, is_some, refl, ap, sym, ◌∙◌, subst, arith}
+use Rattle.std.specs.List.{list_any}
+use Rattle.cim_words.specs.Groups.{has_two_ends, is_clamp, is_cut, is_segment, is_single, is_switch, is_terminal}
+use Rattle.cim_words.specs.declared.known_prop.KnownProp.TheVariants.{K2}
+use Rattle.cim_words.specs.declared.statement.Statement.{Statement}
+use Rattle.cim_model.specs.Model.{is_empty, is_of, is_subject, naming, types}
+use Rattle.cim_model.specs.Network.{IsUnmarked, by_side, first, has_sides, is_mark, is_some_number, number_of, owner_of, terminals_by_side, with_number}
+use Rattle.cim_model.specs.Profile.{IsFaultless, are_misnumbered, are_one_and_two, breaks_numbers, breaks_terminals, is_one, needs_no_numbers}
+use Rattle.cim_model.specs.Stated.{clamps_of, cuts_of, numbers_of, terminals_of}
+use Rattle.cim_model.proofs.FaultlessSubjects.{keeps, none_passes}
+use Rattle.cim_model.proofs.FaultlessTerminals.{listed_owned, owned_listed, owner_subject}
+use Rattle.cim_model.proofs.ListMembers.{Among, among_any, among_either, among_filter, among_left, among_right, any_among, filter_among, filter_passes}
+use Rattle.cim_model.proofs.Runs.{either, number_itself, or_left, same_number}
+use Rattle.cim_model.proofs.SaidLemmas.{both_left, both_right}
+
+-- the order adds nothing
+by_side_if : (m : List Statement) (ts : List ℕ) (t : ℕ) (b : Bool) → Among (cond b (with_number m 1 ts ++ with_number m 2 ts) ts) t → Among ts t
+by_side_if m ts t true h = elim (among_either (with_number m 1 ts) (with_number m 2 ts) t h) [ inl one ↦ filter_among (λ t. is_some_number 1 (number_of m t)) ts t one | inr two ↦ filter_among (λ t. is_some_number 2 (number_of m t)) ts t two ]
+by_side_if m ts t false h = h
+
+sides_if : (m : List Statement) (ts : List ℕ) (t : ℕ) (b : Bool) → Among (cond b (by_side m ts) ts) t → Among ts t
+sides_if m ts t true h = by_side_if m ts t (list_any (λ t. is_some (number_of m t)) ts) h
+sides_if m ts t false h = h
+
+pub side_listed : (m : List Statement) (x t : ℕ) → Among (terminals_by_side m x) t → Among (terminals_of m x) t
+side_listed m x t h = sides_if m (terminals_of m x) t (is_of m has_sides x) h
+
+-- it keeps what is numbered 1 or 2, and everything where nothing is numbered
+number_passes : (n : ℕ) (o : Option ℕ) → o ≡ Some n → is_some_number n o ≡ true
+number_passes n o is = rw is (number_itself n)
+
+numbered_if : (m : List Statement) (ts : List ℕ) (t : ℕ) (b : Bool) → Among ts t → (number_of m t ≡ Some 1) ⊎ (number_of m t ≡ Some 2) → Among (cond b (with_number m 1 ts ++ with_number m 2 ts) ts) t
+numbered_if m ts t true there (inl one) = among_left (with_number m 1 ts) (with_number m 2 ts) t (among_filter (λ t. is_some_number 1 (number_of m t)) ts t there (number_passes 1 (number_of m t) one))
+numbered_if m ts t true there (inr two) = among_right (with_number m 1 ts) (with_number m 2 ts) t (among_filter (λ t. is_some_number 2 (number_of m t)) ts t there (number_passes 2 (number_of m t) two))
+numbered_if m ts t false there number = there
+
+some_not_none : (o : Option ℕ) → is_some o ≡ true → o ≡ None → ⊥
+some_not_none None h is = cc
+some_not_none (Some n) h is = cc
+
+unnumbered_if : (m : List Statement) (ts : List ℕ) (t : ℕ) (b : Bool) → list_any (λ t. is_some (number_of m t)) ts ≡ b → Among ts t → ((u : ℕ) → Among ts u → number_of m u ≡ None)
+    → Among (cond b (with_number m 1 ts ++ with_number m 2 ts) ts) t
+unnumbered_if m ts t true is there none =
+    let from = any_among (λ t. is_some (number_of m t)) ts is in
+    absurd (some_not_none (number_of m from.0) from.2 (none from.0 from.1))
+unnumbered_if m ts t false is there none = there
+
+-- a segment's two terminals are numbered 1 and 2, or not at all
+IsOneOrTwo : List Statement → ℕ → Type 0
+IsOneOrTwo m t = (number_of m t ≡ Some 1) ⊎ (number_of m t ≡ Some 2)
+
+is_only : (n : ℕ) (ns : List ℕ) → is_one n ns ≡ true → first ns ≡ Some n
+is_only n [] h = absurd cc
+is_only n (k ∷ []) h = ap (λ (i : ℕ). Some i) (same_number k n h)
+is_only n (k ∷ l ∷ ns) h = absurd cc
+
+is_unstated : (ns : List ℕ) → is_empty ns ≡ true → first ns ≡ None
+is_unstated [] h = refl
+is_unstated (n ∷ ns) h = absurd cc
+
+two_of : (xs : List ℕ) → length xs ≡ 2 → (a : ℕ) × (b : ℕ) × (xs ≡ a ∷ b ∷ [])
+two_of [] h = absurd (omega arith)
+two_of (a ∷ []) h = absurd (omega arith)
+two_of (a ∷ b ∷ []) h = (a, b, refl)
+two_of (a ∷ b ∷ c ∷ xs) h = absurd (omega arith)
+
+of_two : (P : ℕ → Type 0) (a b t : ℕ) → P a → P b → Among (a ∷ b ∷ []) t → P t
+of_two P a b t at_a at_b (inl is) = subst P is at_a
+of_two P a b t at_a at_b (inr (inl is)) = subst P is at_b
+of_two P a b t at_a at_b (inr (inr none)) = absurd none
+
+number_stated : (m : List Statement) (t : ℕ) → is_of m is_terminal t ≡ true → number_of m t ≡ first (numbers_of m t)
+number_stated m t terminal = ap (λ (b : Bool). cond b (first (numbers_of m t)) None) terminal
+
+numbered : (m : List Statement) (t n : ℕ) → is_of m is_terminal t ≡ true → is_one n (numbers_of m t) ≡ true → number_of m t ≡ Some n
+numbered m t n terminal is = number_stated m t terminal ∙ is_only n (numbers_of m t) is
+
+unnumbered : (m : List Statement) (t : ℕ) → is_of m is_terminal t ≡ true → is_empty (numbers_of m t) ≡ true → number_of m t ≡ None
+unnumbered m t terminal is = number_stated m t terminal ∙ is_unstated (numbers_of m t) is
+
+one_and_two : (m : List Statement) (a b : ℕ) → is_of m is_terminal a ≡ true → is_of m is_terminal b ≡ true → are_one_and_two (numbers_of m a) (numbers_of m b) ≡ true → IsOneOrTwo m a × IsOneOrTwo m b
+unfolding IsOneOrTwo
+one_and_two m a b at_a at_b h = elim (either (is_one 1 (numbers_of m a) && is_one 2 (numbers_of m b)) (is_one 2 (numbers_of m a) && is_one 1 (numbers_of m b)) h) [
+  | inl up ↦ (inl (numbered m a 1 at_a (both_left _ _ up)), inr (numbered m b 2 at_b (both_right (is_one 1 (numbers_of m a)) _ up)))
+  | inr down ↦ (inr (numbered m a 2 at_a (both_left _ _ down)), inl (numbered m b 1 at_b (both_right (is_one 2 (numbers_of m a)) _ down)))
+]
+
+neither_numbered : (m : List Statement) (x a b : ℕ) → is_of m is_terminal a ≡ true → is_of m is_terminal b ≡ true → needs_no_numbers m x (numbers_of m a) (numbers_of m b) ≡ true
+    → (number_of m a ≡ None) × (number_of m b ≡ None)
+neither_numbered m x a b at_a at_b h =
+    let empty = last_two (is_of m is_segment x) (is_empty (cuts_of m x)) (is_empty (clamps_of m x)) (is_empty (numbers_of m a)) (is_empty (numbers_of m b)) h in
+    (unnumbered m a at_a empty.0, unnumbered m b at_b empty.1)
+  where
+    last_two : (p q r s u : Bool) → (p && q && r && s && u) ≡ true → (s ≡ true) × (u ≡ true)
+    last_two true true true s u h = (both_left s u h, both_right s u h)
+    last_two true true false s u h = absurd cc
+    last_two true false r s u h = absurd cc
+    last_two false q r s u h = absurd cc
+
+unless_neither : (a b : Bool) → (not a && not b) ≡ false → (a ≡ true) ⊎ (b ≡ true)
+unless_neither true b h = inl refl
+unless_neither false true h = inr refl
+unless_neither false false h = absurd cc
+
+two_sides : (m : List Statement) (x t a b : ℕ) → ((u : ℕ) → Among (a ∷ b ∷ []) u → is_of m is_terminal u ≡ true) → are_misnumbered m x (a ∷ b ∷ []) ≡ false → Among (a ∷ b ∷ []) t
+    → Among (by_side m (a ∷ b ∷ [])) t
+unfolding IsOneOrTwo
+two_sides m x t a b terminals right there =
+    let at_a = terminals a (inl refl) in
+    let at_b = terminals b (inr (inl refl)) in
+    let any = list_any (λ t. is_some (number_of m t)) (a ∷ b ∷ []) in
+    elim (unless_neither (are_one_and_two (numbers_of m a) (numbers_of m b)) (needs_no_numbers m x (numbers_of m a) (numbers_of m b)) right) [
+      | inl numbers ↦ (let each = one_and_two m a b at_a at_b numbers in numbered_if m (a ∷ b ∷ []) t any there (of_two (IsOneOrTwo m) a b t each.0 each.1 there))
+      | inr none ↦ (let each = neither_numbered m x a b at_a at_b none in unnumbered_if m (a ∷ b ∷ []) t any refl there (λ u has. of_two (λ v. number_of m v ≡ None) a b u each.0 each.1 has))
+    ]
+
+sides_of_two : (m : List Statement) (x t : ℕ) (ts : List ℕ) → (a : ℕ) × (b : ℕ) × (ts ≡ a ∷ b ∷ []) → ((u : ℕ) → Among ts u → is_of m is_terminal u ≡ true) → are_misnumbered m x ts ≡ false
+    → Among ts t → Among (by_side m ts) t
+sides_of_two m x t ts two =
+    subst (λ (those : List ℕ). ((u : ℕ) → Among those u → is_of m is_terminal u ≡ true) → are_misnumbered m x those ≡ false → Among those t → Among (by_side m those) t) (sym two.2) (two_sides m x t two.0 two.1)
+
+-- what has sides in a model without cuts and clamps is a segment
+of_segment : (a b c : Bool) → (a || b) ≡ true → (b || c) ≡ false → a ≡ true
+of_segment true b c h none = refl
+of_segment false true c h none = absurd cc
+of_segment false false c h none = absurd cc
+
+segment_with_sides : (m : List Statement) (x : ℕ) → IsUnmarked m → is_of m has_sides x ≡ true → is_of m is_segment x ≡ true
+segment_with_sides m x unmarked h =
+    let c = any_among has_sides (types m x) h in
+    among_any is_segment (types m x) c.0 c.1 (of_segment (is_segment c.0) (is_cut c.0) (is_clamp c.0) c.2 (none_passes is_mark (types m x) c.0 (unmarked x) c.1))
+
+two_ends : (m : List Statement) (x : ℕ) → is_of m is_segment x ≡ true → is_of m has_two_ends x ≡ true
+two_ends m x h =
+    let c = any_among is_segment (types m x) h in
+    among_any has_two_ends (types m x) c.0 c.1 (or_left (is_segment c.0) (is_switch c.0) c.2)
+
+has_two : (a b c d e : Bool) → (a && not b || c && not d || not (a || c) && e) ≡ false → a ≡ true → b ≡ true
+has_two true true c d e h is = refl
+has_two true false c d e h is = absurd cc
+has_two false b c d e h is = absurd cc
+
+right_second : (a b : Bool) → (a && b) ≡ false → a ≡ true → b ≡ false
+right_second true b h is = h
+right_second false b h is = absurd cc
+
+segment_sides : (m : List Statement) (x t : ℕ) → IsFaultless m → is_subject m x ≡ true → is_of m is_segment x ≡ true → Among (terminals_of m x) t → Among (by_side m (terminals_of m x)) t
+segment_sides m x t faultless subject segment there =
+    let ends : breaks_terminals m x ≡ false = keeps m 5 x faultless subject in
+    let numbers : breaks_numbers m x ≡ false = keeps m 6 x faultless subject in
+    let count = length (terminals_of m x) in
+    let two : count ≡ 2 = same_number count 2 (has_two (is_of m has_two_ends x) (count == 2) (is_of m is_single x) (count == 1) _ ends (two_ends m x segment)) in
+    sides_of_two m x t (terminals_of m x) (two_of (terminals_of m x) two) (λ u has. filter_passes (is_of m is_terminal) (naming m K2 x) u has)
+    (right_second (is_of m is_segment x || is_of m is_cut x) (are_misnumbered m x (terminals_of m x)) numbers (or_left (is_of m is_segment x) (is_of m is_cut x) segment))
+    there
+
+listed_if : (m : List Statement) (x t : ℕ) (b : Bool) → is_of m has_sides x ≡ b → IsFaultless m → IsUnmarked m → is_subject m x ≡ true → Among (terminals_of m x) t
+    → Among (cond b (by_side m (terminals_of m x)) (terminals_of m x)) t
+listed_if m x t true is faultless unmarked subject there = segment_sides m x t faultless subject (segment_with_sides m x unmarked is) there
+listed_if m x t false is faultless unmarked subject there = there
+
+-- so the terminals of equipment by side are those that it owns
+pub owned_side : (m : List Statement) (y t : ℕ) → IsFaultless m → IsUnmarked m → owner_of m t ≡ Some y → Among (terminals_by_side m y) t
+owned_side m y t faultless unmarked owned = listed_if m y t (is_of m has_sides y) refl faultless unmarked (owner_subject m y t faultless owned) (owned_listed m y t owned)
+
+pub side_owned : (m : List Statement) (y t : ℕ) → IsFaultless m → Among (terminals_by_side m y) t → owner_of m t ≡ Some y
+side_owned m y t faultless there = listed_owned m y t faultless (side_listed m y t there)

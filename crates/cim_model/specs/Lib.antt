@@ -1,0 +1,10 @@
+pub mod Links
+pub mod Model
+pub mod Network
+pub mod Phases
+pub mod Profile
+pub mod Reach
+pub mod Runs
+pub mod Stated
+pub mod Trace
+pub mod Values
