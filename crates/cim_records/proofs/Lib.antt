@@ -1,0 +1,11 @@
+pub mod Lists
+pub mod Rules
+pub mod Known
+pub mod Reading
+pub mod Phases
+pub mod Updates
+pub mod Kept
+pub mod Sides
+pub mod Stated
+pub mod Gathers
+pub mod Standing

@@ -1,0 +1,17 @@
+//! The network of a model, looked up by identifier.
+#![tactic(auto)]
+
+mod gathering;
+mod groups;
+mod index;
+mod part_phases;
+mod queries;
+mod run;
+mod subject;
+mod subjects;
+mod tables;
+#[cfg(test)]
+mod tests;
+
+pub use cim_words::NoMemory;
+pub use index::Index;

@@ -1,0 +1,147 @@
+//! The statements about one subject, read.
+
+ghost use Rattle.std.specs.Prelude.{◌≡◌, option_map};
+ghost use Rattle.std.specs.Option.{option_copied};
+ghost use Rattle.cim_model.specs.Model.{id_said, said_in};
+ghost use Rattle.cim_model.specs.Network.{first};
+ghost use Rattle.cim_model.specs.Values.{as_id, as_length, code_said, kind_said, length_said, number_said, truth_said};
+ghost use Rattle.cim_records.specs.Subject as spec;
+
+use crate::subject::Subject;
+use cim_model::{class_of, code_of, id_of, is_by, kind_of, length_of, number_of, truth_of};
+use cim_words::{Class, Id, KnownProp, Length, Object, PhaseSet, Statement};
+
+/// All statements about one subject, and the class that they name.
+#[derive(Clone, Copy, Drop)]
+struct Run<'a> {
+    class: Option<Class>,
+    statements: &'a [Statement],
+}
+
+/// What the statements about a subject say of it.
+pub(crate) fn read_subject(statements: &[Statement]) -> Subject
+    ensures { result ≡ spec.subject_in statements.now }
+{
+    let class = class_in(statements);
+    Run { class, statements }.subject()
+}
+
+/// The class that the first type statement with a class names.
+fn class_in(statements: &[Statement]) -> Option<Class>
+    ensures { result ≡ spec.class_said statements.now }
+{
+    for statement in statements {
+        if !is_by(KnownProp::K1, statement) {
+            continue;
+        }
+        if let Some(class) = class_of(&statement.object) {
+            return Some(class);
+        }
+    }
+    None
+}
+
+/// The first object that statements say by a property.
+fn object_in(statements: &[Statement], known: KnownProp) -> Option<&Object>
+    ensures { option_copied result ≡ first (said_in statements.now known) }
+{
+    for statement in statements {
+        if is_by(known, statement) {
+            return Some(&statement.object);
+        }
+    }
+    None
+}
+
+impl<'a> Run<'a> {
+    /// What the statements say of their subject.
+    fn subject(&self) -> Subject
+        ensures { result ≡ spec.subject_of self.now.class self.now.statements.now }
+    {
+        Subject {
+            class: self.class,
+            owner: self.id(KnownProp::K2),
+            node: self.id(KnownProp::K3),
+            phases: self.code(KnownProp::K4),
+            number: self.number(KnownProp::K5),
+            length: self.length(KnownProp::K8),
+            is_open: self.is_open(),
+            equipment: self.equipment(),
+            phase: self.phase(),
+        }
+    }
+
+    /// Whether a switch is open: as stated, else as it normally is, else a cut is open and every other switch closed.
+    fn is_open(&self) -> bool
+        ensures { result ≡ spec.open_in self.now.class self.now.statements.now }
+    {
+        let is_cut = self.class.is_some_and(Class::is_cut);
+        let normally = self.truth(KnownProp::K6).unwrap_or(is_cut);
+        self.truth(KnownProp::K7).unwrap_or(normally)
+    }
+
+    /// The equipment that a phase object names.
+    fn equipment(&self) -> Option<Id>
+        ensures { result ≡ option_map as_id (spec.equipment_in self.now.class self.now.statements.now) }
+    {
+        self.id(KnownProp::K13)
+            .or(self.id(KnownProp::K15))
+            .or(self.id(KnownProp::K17))
+    }
+
+    /// The phase that a phase object states.
+    fn phase(&self) -> Option<PhaseSet>
+        ensures { result ≡ spec.phase_in self.now.class self.now.statements.now }
+    {
+        self.kind(KnownProp::K14)
+            .or(self.kind(KnownProp::K16))
+            .or(self.kind(KnownProp::K19))
+    }
+
+    /// The first object of a property that counts on the class.
+    fn object(&self, known: KnownProp) -> Option<&'a Object>
+        ensures { option_copied result ≡ first (spec.counted self.now.class self.now.statements.now known) }
+    {
+        if self.class.is_some_and(|class| known.counts_on(class)) {
+            object_in(self.statements, known)
+        } else {
+            None
+        }
+    }
+
+    fn id(&self, known: KnownProp) -> Option<Id>
+        ensures { result ≡ option_map as_id (spec.value_in id_said self.now.class self.now.statements.now known) }
+    {
+        id_of(self.object(known)?)
+    }
+
+    fn code(&self, known: KnownProp) -> Option<PhaseSet>
+        ensures { result ≡ spec.value_in code_said self.now.class self.now.statements.now known }
+    {
+        code_of(self.object(known)?)
+    }
+
+    fn kind(&self, known: KnownProp) -> Option<PhaseSet>
+        ensures { result ≡ spec.value_in kind_said self.now.class self.now.statements.now known }
+    {
+        kind_of(self.object(known)?)
+    }
+
+    fn number(&self, known: KnownProp) -> Option<u32>
+        ensures { result ≡ spec.value_in number_said self.now.class self.now.statements.now known }
+    {
+        number_of(self.object(known)?)
+    }
+
+    fn length(&self, known: KnownProp) -> Option<Length>
+        ensures { result ≡ option_map as_length (spec.value_in length_said self.now.class self.now.statements.now known) }
+    {
+        length_of(self.object(known)?)
+    }
+
+    fn truth(&self, known: KnownProp) -> Option<bool>
+        ensures { result ≡ spec.value_in truth_said self.now.class self.now.statements.now known }
+    {
+        truth_of(self.object(known)?)
+    }
+}

@@ -1,0 +1,315 @@
+//! A small network, and what is looked up in it.
+
+ghost use Rattle.std.specs.Prelude.{IfOk, IsTrue};
+ghost use Rattle.cim_words.specs.Object.{is_proper_object};
+
+use crate::Index;
+use cim_profile::first_break;
+use cim_words::{
+    Class, Id, KnownProp, Length, NoMemory, Object, PhaseSet, Prop, Statement, Statements, Word,
+};
+use statement_set::StatementSet;
+use std::alloc::Global;
+use std::process::Abort;
+use std::test::Fail;
+
+const TERMINAL: Said = Said::Name("http://iec.ch/TC57/CIM100#Terminal");
+
+/// What a statement says.
+#[derive(Clone, Copy, Drop)]
+enum Said {
+    Id(u128),
+    Name(&'static str),
+    Text(&'static str),
+}
+
+type Row = (u128, KnownProp, Said);
+
+/// A segment 10 whose terminal 2 comes first, with phase objects for A and C and a cut 14; a segment 11 without numbers.
+const SEGMENTS: [Row; 29] = [
+    (
+        10,
+        KnownProp::K1,
+        Said::Name("http://iec.ch/TC57/CIM100#ACLineSegment"),
+    ),
+    (10, KnownProp::K8, Said::Text("9")),
+    (1, KnownProp::K1, TERMINAL),
+    (1, KnownProp::K2, Said::Id(10)),
+    (1, KnownProp::K3, Said::Id(20)),
+    (1, KnownProp::K5, Said::Text("2")),
+    (2, KnownProp::K1, TERMINAL),
+    (2, KnownProp::K2, Said::Id(10)),
+    (2, KnownProp::K3, Said::Id(21)),
+    (2, KnownProp::K5, Said::Text("1")),
+    (
+        40,
+        KnownProp::K1,
+        Said::Name("http://iec.ch/TC57/CIM100#ACLineSegmentPhase"),
+    ),
+    (40, KnownProp::K13, Said::Id(10)),
+    (
+        40,
+        KnownProp::K14,
+        Said::Name("http://iec.ch/TC57/CIM100#SinglePhaseKind.A"),
+    ),
+    (
+        41,
+        KnownProp::K1,
+        Said::Name("http://iec.ch/TC57/CIM100#ACLineSegmentPhase"),
+    ),
+    (41, KnownProp::K13, Said::Id(10)),
+    (
+        41,
+        KnownProp::K14,
+        Said::Name("http://iec.ch/TC57/CIM100#SinglePhaseKind.C"),
+    ),
+    (
+        11,
+        KnownProp::K1,
+        Said::Name("http://iec.ch/TC57/CIM100#ACLineSegment"),
+    ),
+    (3, KnownProp::K1, TERMINAL),
+    (3, KnownProp::K2, Said::Id(11)),
+    (3, KnownProp::K3, Said::Id(20)),
+    (
+        3,
+        KnownProp::K4,
+        Said::Name("http://iec.ch/TC57/CIM100#PhaseCode.BN"),
+    ),
+    (4, KnownProp::K1, TERMINAL),
+    (4, KnownProp::K2, Said::Id(11)),
+    (
+        14,
+        KnownProp::K1,
+        Said::Name("http://iec.ch/TC57/CIM100#Cut"),
+    ),
+    (14, KnownProp::K11, Said::Id(10)),
+    (30, KnownProp::K1, TERMINAL),
+    (30, KnownProp::K2, Said::Id(14)),
+    (30, KnownProp::K5, Said::Text("2")),
+    (31, KnownProp::K1, TERMINAL),
+];
+
+/// The rest of the cut, a breaker 12 that is closed but normally open, with a phase object for A, and a fuse 13 that is normally open.
+const SWITCHES: [Row; 23] = [
+    (31, KnownProp::K2, Said::Id(14)),
+    (31, KnownProp::K5, Said::Text("1")),
+    (
+        12,
+        KnownProp::K1,
+        Said::Name("http://iec.ch/TC57/CIM100#Breaker"),
+    ),
+    (12, KnownProp::K6, Said::Text("true")),
+    (12, KnownProp::K7, Said::Text("false")),
+    (5, KnownProp::K1, TERMINAL),
+    (5, KnownProp::K2, Said::Id(12)),
+    (5, KnownProp::K5, Said::Text("2")),
+    (6, KnownProp::K1, TERMINAL),
+    (6, KnownProp::K2, Said::Id(12)),
+    (6, KnownProp::K5, Said::Text("1")),
+    (
+        43,
+        KnownProp::K1,
+        Said::Name("http://iec.ch/TC57/CIM100#SwitchPhase"),
+    ),
+    (43, KnownProp::K17, Said::Id(12)),
+    (
+        43,
+        KnownProp::K19,
+        Said::Name("http://iec.ch/TC57/CIM100#SinglePhaseKind.A"),
+    ),
+    (
+        13,
+        KnownProp::K1,
+        Said::Name("http://iec.ch/TC57/CIM100#Fuse"),
+    ),
+    (13, KnownProp::K6, Said::Text("true")),
+    (7, KnownProp::K1, TERMINAL),
+    (7, KnownProp::K2, Said::Id(13)),
+    (8, KnownProp::K1, TERMINAL),
+    (8, KnownProp::K2, Said::Id(13)),
+    (
+        20,
+        KnownProp::K1,
+        Said::Name("http://iec.ch/TC57/CIM100#ConnectivityNode"),
+    ),
+    (
+        21,
+        KnownProp::K1,
+        Said::Name("http://iec.ch/TC57/CIM100#ConnectivityNode"),
+    ),
+    (
+        15,
+        KnownProp::K1,
+        Said::Name("http://iec.ch/TC57/CIM100#PowerTransformer"),
+    ),
+];
+
+/// The terminals of the transformer 15, a consumer 16 with a phase object for B, a house 17 with a terminal, and what has two unknown types.
+const OTHERS: [Row; 18] = [
+    (33, KnownProp::K1, TERMINAL),
+    (33, KnownProp::K2, Said::Id(15)),
+    (32, KnownProp::K1, TERMINAL),
+    (32, KnownProp::K2, Said::Id(15)),
+    (
+        16,
+        KnownProp::K1,
+        Said::Name("http://iec.ch/TC57/CIM100#EnergyConsumer"),
+    ),
+    (34, KnownProp::K1, TERMINAL),
+    (34, KnownProp::K2, Said::Id(16)),
+    (34, KnownProp::K3, Said::Id(21)),
+    (
+        42,
+        KnownProp::K1,
+        Said::Name("http://iec.ch/TC57/CIM100#EnergyConsumerPhase"),
+    ),
+    (42, KnownProp::K15, Said::Id(16)),
+    (
+        42,
+        KnownProp::K16,
+        Said::Name("http://iec.ch/TC57/CIM100#SinglePhaseKind.B"),
+    ),
+    (17, KnownProp::K1, Said::Name("http://example.org/House")),
+    (35, KnownProp::K1, TERMINAL),
+    (35, KnownProp::K2, Said::Id(17)),
+    (50, KnownProp::K1, Said::Name("http://example.org/House")),
+    (50, KnownProp::K1, Said::Name("http://example.org/Shed")),
+    (50, KnownProp::K2, Said::Id(10)),
+    (50, KnownProp::K7, Said::Text("true")),
+];
+
+fn object(alloc: Global, said: Said) -> Result<Object, NoMemory>
+    ensures { IfOk result (λ object. IsTrue (is_proper_object object)) }
+{
+    match said {
+        Said::Id(number) => Ok(Object::Id(Id::of(number))),
+        Said::Name(text) => Object::of_iri(alloc, text),
+        Said::Text(text) => Ok(Object::Text(Word::of(alloc, text)?)),
+    }
+}
+
+fn append(statements: &mut Vec<Statement>, rows: &[Row]) -> Result<(), NoMemory> {
+    let alloc = *statements.allocator();
+    for row in rows {
+        let (number, known, said) = *row;
+        statements.push(Statement {
+            subject: Id::of(number),
+            prop: Prop::Known(known),
+            object: object(alloc, said)?,
+        })?;
+    }
+    Ok(())
+}
+
+/// The index of the network, which has no fault.
+fn network(alloc: Global) -> Result<Index, Fail> {
+    let mut statements = Vec::new(alloc);
+    append(&mut statements, &SEGMENTS)?;
+    append(&mut statements, &SWITCHES)?;
+    append(&mut statements, &OTHERS)?;
+    let set = StatementSet::from_list(Statements::of(statements))?;
+    match first_break(alloc, &set)? {
+        Some(found) => Err(Fail::new(found.rule)),
+        None => Ok(Index::build(alloc, &set)?),
+    }
+}
+
+fn are(ids: &[Id], want: &[u128]) -> bool {
+    ids.len() == want.len()
+        && ids
+            .iter()
+            .zip(want)
+            .all(|(id, number)| id.number == *number)
+}
+
+fn is(id: Option<Id>, want: u128) -> bool {
+    id == Some(Id::of(want))
+}
+
+fn phases(a: bool, b: bool, c: bool, n: bool) -> PhaseSet {
+    PhaseSet {
+        a,
+        b,
+        c,
+        n,
+        s1: false,
+        s2: false,
+    }
+}
+
+#[test]
+fn lists(rt: HostRuntime) -> Result<(), Fail> {
+    let index = network(rt.alloc())?;
+    assert!(rt; are(index.equipment(), &[10, 11, 12, 13, 14, 15, 16, 17]));
+    assert!(rt; are(index.nodes(), &[20, 21]));
+    let terminals: [(u128, &[u128]); 7] = [
+        (10, &[2, 1]),
+        (11, &[3, 4]),
+        (12, &[5, 6]),
+        (14, &[31, 30]),
+        (15, &[32, 33]),
+        (17, &[35]),
+        (20, &[]),
+    ];
+    for (equipment, want) in terminals {
+        assert!(rt;
+            are(index.terminals_of(Id::of(equipment)), want),
+            "of {equipment}"
+        );
+    }
+    assert!(rt; are(index.at_node(Id::of(20)), &[1, 3]));
+    assert!(rt; are(index.at_node(Id::of(21)), &[2, 34]));
+    Ok(())
+}
+
+#[test]
+fn phases_of_terminals(rt: HostRuntime) -> Result<(), Fail> {
+    let index = network(rt.alloc())?;
+    let table = [
+        (1, phases(true, false, true, false)),
+        (3, phases(false, true, false, true)),
+        (4, PhaseSet::ABC),
+        (5, phases(true, false, false, false)),
+        (7, PhaseSet::ABC),
+        (34, phases(false, true, false, false)),
+        (10, PhaseSet::EMPTY),
+    ];
+    for (terminal, want) in table {
+        assert!(rt; index.phases_of(Id::of(terminal)) == want, "of {terminal}");
+    }
+    assert!(rt; index.segment_phases(Id::of(10)) == phases(true, false, true, false));
+    assert!(rt; index.segment_phases(Id::of(11)) == phases(true, true, true, true));
+    Ok(())
+}
+
+#[test]
+fn subjects(rt: HostRuntime) -> Result<(), Fail> {
+    let built = network(rt.alloc())?;
+    let index = built.share()?;
+    assert!(rt; index.set().len() == 70);
+    for (id, subject, equipment, open) in [
+        (12, true, true, false),
+        (13, true, true, true),
+        (14, true, true, true),
+        (17, true, true, false),
+        (50, true, false, false),
+        (99, false, false, false),
+    ] {
+        assert!(rt; index.is_subject(Id::of(id)) == subject, "subject {id}");
+        assert!(rt;
+            index.is_equipment(Id::of(id)) == equipment,
+            "equipment {id}"
+        );
+        assert!(rt; index.open_of(Id::of(id)) == open, "open {id}");
+    }
+    assert!(rt; index.class_of(Id::of(12)) == Some(Class::Breaker));
+    assert!(rt; index.class_of(Id::of(50)) == Some(Class::Other));
+    assert!(rt; is(index.owner_of(Id::of(1)), 10));
+    assert!(rt; index.owner_of(Id::of(50)).is_none());
+    assert!(rt; is(index.node_of(Id::of(2)), 21));
+    assert!(rt; is(index.equipment_of(Id::of(42)), 16));
+    assert!(rt; index.length_of(Id::of(10)) == Some(Length { mm: 9000 }));
+    assert!(rt; index.length_of(Id::of(11)).is_none());
+    Ok(())
+}
