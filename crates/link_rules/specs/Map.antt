@@ -1,0 +1,83 @@
+-- The graph of a model without cuts and clamps under an empty overlay, entry by entry, of this project.
+use Rattle.std.specs.Prelude.{ℕ, ◌≡◌, ◌↔◌, List, [], ◌∷◌, map, false, IsTrue, if◌then◌else◌, Option, Some, None, Contains, option_map, unwrap_or}
+use Rattle.std.specs.List.Sorted.{IsStrictlySortedBy}
+use Rattle.cim_model.specs.Model.{is_of}
+use Rattle.cim_model.specs.Network.{class_in, is_equipment, node_of, open_of, owner_of, phases_of, segment_phases, terminals_by_side}
+use Rattle.cim_model.specs.Values.{as_id}
+use Rattle.cim_words.specs.Groups.{is_node, is_passing, is_segment, is_switch, is_transformer}
+use Rattle.cim_words.specs.declared.class.Class.TheVariants as class
+use Rattle.cim_words.specs.declared.statement.Statement.{Statement}
+use Rattle.graph_pages.specs.Graph.{GraphView, members_of, star_of}
+use Rattle.graph_pages.specs.declared.star.Pass.{Pass}
+use Rattle.graph_pages.specs.declared.star.Pass.TheVariants as pass
+use Rattle.graph_pages.specs.declared.star.Spoke.{Spoke}
+use Rattle.graph_pages.specs.declared.star.SpokePhases.TheVariants as phases
+use Rattle.graph_pages.specs.declared.star.Star.{Star}
+use Rattle.graph_pages.specs.declared.term.Term.{Term}
+use Rattle.graph_pages.specs.declared.term.TermKey.TheVariants as key
+use Rattle.link_rules.specs.Order.{term_order}
+use Rattle.room_words.specs.declared.anchor.Anchor.{Anchor}
+use Rattle.room_words.specs.declared.anchor.Anchor.TheVariants as anchor
+
+-- a terminal t of equipment x, and how the star of x lists it: with its node and its phases
+abbrev pub term : ℕ → ℕ → Term
+term x t = record { owner = as_id x; key = key.Real (as_id t) }
+
+abbrev pub at_node : ℕ → Anchor
+at_node n = anchor.Node (as_id n)
+
+abbrev pub spoke : List Statement → ℕ → ℕ → Spoke
+spoke m x t = record { term = term x t; at = option_map at_node (node_of m t); phases = phases.Own (phases_of m t) }
+
+-- a segment without cuts and clamps has one section, with its terminal 1 and its terminal 2
+abbrev pub line : List Statement → ℕ → Pass
+line m x = pass.Line (segment_phases m x) (map (term x) (terminals_by_side m x) ∷ [])
+
+-- how current passes between the terminals of equipment, by its class
+abbrev pub pass_of : List Statement → ℕ → Pass
+pass_of m x =
+    if is_of m is_segment x then line m x else
+    if is_of m is_switch x then pass.Switch (open_of m x) else
+    if is_of m is_passing x then pass.Same else
+    if is_of m is_transformer x then pass.Transformer else pass.Nothing
+
+-- the star of equipment, and of nothing else
+abbrev pub star : List Statement → ℕ → Star
+star m x = record {
+  id = as_id x;
+  class = unwrap_or (class_in m x) class.Other;
+  on = None;
+  spokes = map (spoke m x) (terminals_by_side m x);
+  pass = pass_of m x;
+}
+
+abbrev pub star_at : List Statement → ℕ → Option Star
+star_at m x = if is_equipment m x then Some (star m x) else None
+
+-- a terminal of the model at a node, with its owner
+pub record IsTermAt (m : List Statement) (n : ℕ) (u : Term) : Type 0 where
+  pub terminal : ℕ
+  pub key : u.key ≡ key.Real (as_id terminal)
+  pub at : node_of m terminal ≡ Some n
+  pub owner : owner_of m terminal ≡ Some u.owner.number
+
+-- a terminal of the model with its owner, where it has one
+abbrev pub owned_term : List Statement → ℕ → Option Term
+owned_term m t = option_map (λ owner. term owner t) (owner_of m t)
+
+-- the members of a node: just its terminals, in ascending order of owner and terminal
+pub record AreMembers (m : List Statement) (n : ℕ) (members : List Term) : Type 0 where
+  pub ascending : IsStrictlySortedBy term_order members
+  pub terminals : (u : Term) → Contains members u ↔ IsTermAt m n u
+
+-- the entry of a place: a node has its members, and no other place has any
+abbrev pub IsEntry : List Statement → Anchor → Option (List Term) → Type 0
+IsEntry m (anchor.Node n) (Some members) = IsTrue (is_of m is_node n.number) × AreMembers m n.number members
+IsEntry m (anchor.Node n) None = is_of m is_node n.number ≡ false
+IsEntry m (anchor.Side item side) (Some members) = ⊥
+IsEntry m (anchor.Side item side) None = Unit {0}
+
+-- the graph of a model
+pub record IsMap (m : List Statement) (g : GraphView) : Type 0 where
+  pub stars : (x : ℕ) → star_of g x ≡ star_at m x
+  pub places : (place : Anchor) → IsEntry m place (members_of g place)

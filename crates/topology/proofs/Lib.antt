@@ -1,0 +1,9 @@
+mod Gathered
+mod JoinedInGraph
+mod JoinedInNetwork
+mod PictureLemmas
+mod PlaceLists
+mod SpokeLemmas
+mod StarLists
+mod WalkPictures
+mod WalksAreReach
