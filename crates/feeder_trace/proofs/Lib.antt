@@ -1,0 +1,11 @@
+pub mod MarkLemmas
+pub mod PhaseLemmas
+pub mod RoomLemmas
+pub mod TermLemmas
+pub mod NumberingLemmas
+pub mod SpreadLemmas
+pub mod WalkLemmas
+pub mod LineLemmas
+pub mod RowLemmas
+pub mod PartLemmas
+pub mod TraceLemmas

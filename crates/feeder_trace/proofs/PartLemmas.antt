@@ -1,0 +1,114 @@
+-- What the terminals that a search reached count for, one after another.
+use Rattle.std.proofs.Common.{◌≡◌, ◌&&◌, ◌+◌, ◌<◌, ◌≤◌, ℕ, List, [], ◌∷◌, ◌++◌, length, get_or, take, vec_len, Vec, Some, option_map, slice_get, IsTrue, Contains, sym, ap, ◌∙◌, subst, inl, inr, ⊎_elim, arith}
+use Rattle.std.specs.Vec.{vec_capacity}
+use Rattle.std.specs.declared.alloc.Global.{Global}
+use Rattle.std.proofs.lemmas.List.{take_more}
+use Rattle.std.proofs.lemmas.List.Elements.{Contains-append_left, Contains-push, Contains-push_cases}
+use Rattle.std.proofs.lemmas.Option.{same_Some}
+use Rattle.cim_words.specs.Phases.{has_phase}
+use Rattle.cim_words.specs.declared.identifier.Id.{Id}
+use Rattle.cim_words.specs.declared.phases.Phase.{Phase}
+use Rattle.cim_words.specs.declared.phases.PhaseSet.{PhaseSet}
+use Rattle.cim_model.specs.Trace.{Row, Lists}
+use Rattle.graph_pages.specs.Graph.{GraphView, star_of}
+use Rattle.graph_pages.specs.Walks.{CountsFor, line_of, line_phases}
+use Rattle.graph_pages.specs.declared.star.Star.{Star}
+use Rattle.graph_pages.specs.declared.term.Term.{Term}
+use Rattle.feeder_trace.specs.Rows.{AddsParts, Counted, HavePhases}
+use Rattle.feeder_trace.specs.Search.{SearchView, IsAt, IsSet}
+use Rattle.feeder_trace.proofs.RowLemmas.{lists_in, lists_out}
+use Rattle.feeder_trace.proofs.SpreadLemmas.{and_both, both_true, contains_nothing}
+
+-- one part
+pub parts_push : (id : Id) (phases : PhaseSet) (old new : Vec Row Global) (p : Phase) → IsTrue (has_phase phases p) → new.items ≡ old.items ++ (id, phases) ∷ [] → vec_len new ≡ vec_len old + 1 → vec_capacity old ≤ vec_capacity new → AddsParts (λ y q. (id.number ≡ y) × IsTrue (has_phase phases q)) 1 old new
+parts_push id phases old new p holds pushed len wider = record {
+  lists = λ y q. (λ l. lists_out old.items (id, phases) y q (subst (λ (rows : List Row). Lists rows y q) pushed l), λ h. subst (λ (rows : List Row). Lists rows y q) (sym pushed) (lists_in old.items (id, phases) y q h));
+  in_some_phase = λ have row h. ⊎_elim (have row) (λ same. (p, subst (λ (s : Row). IsTrue (has_phase s.1 p)) same holds))
+      (Contains-push_cases old.items (id, phases) row (subst (λ (rows : List Row). Contains rows row) pushed h));
+  len = omega (arith, len);
+  capacity = wider;
+}
+
+-- one part and another
+pub parts_both : (g : GraphView) (t : Term) (star : Star) (segment : Id) (reached met line : PhaseSet) (a b c : Vec Row Global) → star_of g t.owner.number ≡ Some star → star.on ≡ Some segment → line ≡ line_phases (line_of g segment.number) → ((p : Phase) → has_phase met p ≡ (has_phase reached p && has_phase line p))
+    → AddsParts (λ y p. (t.owner.number ≡ y) × IsTrue (has_phase reached p)) 1 a b → AddsParts (λ y p. (segment.number ≡ y) × IsTrue (has_phase met p)) 1 b c → AddsParts (λ y p. CountsFor g t y p × IsTrue (has_phase reached p)) 2 a c
+parts_both g t star segment reached met line a b c at on is meets first then = record {
+  lists = λ y p. (
+    λ l. ⊎_elim
+        (λ l. ⊎_elim inl (λ h. inr (inl h.0, h.1)) ((first.lists y p).0 l))
+        (λ h.
+        let both = and_both (has_phase reached p) (has_phase line p) (sym (meets p) ∙ h.1) in
+        let of_line : IsTrue (has_phase (line_phases (line_of g y)) p) = subst (λ n. IsTrue (has_phase (line_phases (line_of g n)) p)) h.0 (subst (λ (s : PhaseSet). IsTrue (has_phase s p)) is both.1) in
+        inr (inr (star, at, ap (option_map (λ (on : Id). on.number)) on ∙ ap Some h.0, of_line), both.0))
+        ((then.lists y p).0 l),
+    λ h. (then.lists y p).1 (⊎_elim
+        (λ l. inl ((first.lists y p).1 (inl l)))
+        (λ new. ⊎_elim
+        (λ own. inl ((first.lists y p).1 (inr (own, new.1))))
+        (λ (star', at', on', of_line).
+        let same : star' ≡ star = same_Some star' star (sym at' ∙ at) in
+        let number : segment.number ≡ y = same_Some segment.number y (ap (option_map (λ (on : Id). on.number)) (sym on ∙ ap (λ (s : Star). s.on) (sym same)) ∙ on') in
+        let in_line : IsTrue (has_phase line p) = subst (λ (s : PhaseSet). IsTrue (has_phase s p)) (sym is) (subst (λ n. IsTrue (has_phase (line_phases (line_of g n)) p)) (sym number) of_line) in
+        inr (number, meets p ∙ both_true (has_phase reached p) (has_phase line p) new.1 in_line))
+        new.0)
+        h),
+  );
+  in_some_phase = λ have. then.in_some_phase (first.in_some_phase have);
+  len = omega (arith, first.len, then.len);
+  capacity = omega (arith, first.capacity, then.capacity);
+}
+
+-- what the terminals with some numbers count for
+abbrev pub CountedIn : GraphView → SearchView → List ℕ → ℕ → Phase → Type 0
+CountedIn g v ns y p = (i : ℕ) × Contains ns i × (t : Term) × IsAt v i t × CountsFor g t y p × IsSet v.reached i p
+
+-- where a gathering stands after some numbers
+pub record IsGathered (g : GraphView) (v : SearchView) (ns : List ℕ) (parts : List Row) : Type 0 where
+  pub out : (y : ℕ) (p : Phase) → Lists parts y p → CountedIn g v ns y p
+  pub into : (y : ℕ) (p : Phase) → CountedIn g v ns y p → Lists parts y p
+  pub have : HavePhases parts
+
+pub gather_begins : (g : GraphView) (v : SearchView) (ns : List ℕ) (parts : List Row) → parts ≡ [] → IsGathered g v (take 0 ns) parts
+gather_begins g v ns parts none = subst (IsGathered g v []) (sym none) (record {
+  out = λ y p l. contains_nothing l.row l.stands;
+  into = λ y p h. contains_nothing h.0 h.1;
+  have = λ row h. contains_nothing row h;
+})
+
+pub gather_skip : (g : GraphView) (v : SearchView) (ns : List ℕ) (k d : ℕ) (parts : List Row) → k < length ns → ((t : Term) (set : PhaseSet) → IsAt v (get_or ns k d) t → slice_get v.reached (get_or ns k d) ≡ Some set → ⊥) → IsGathered g v (take k ns) parts → IsGathered g v (take (k + 1) ns) parts
+gather_skip g v ns k d parts within none m =
+    subst (λ (ms : List ℕ). IsGathered g v ms parts) (sym (take_more ns k d within))
+    (record {
+      out = λ y p l. let h = m.out y p l in (h.0, Contains-append_left (take k ns) (get_or ns k d ∷ []) h.0 h.1, h.2, h.3, h.4, h.5);
+      into = λ y p (i, stands, t, at, counts, set). ⊎_elim
+          (λ l. m.into y p (i, l, t, at, counts, set))
+          (λ same. absurd (none t set.0 (subst (λ j. IsAt v j t) (sym same) at) (ap (slice_get v.reached) same ∙ set.1)))
+          (Contains-push_cases (take k ns) (get_or ns k d) i stands);
+      have = m.have;
+    })
+
+pub gather_more : (g : GraphView) (v : SearchView) (ns : List ℕ) (k d : ℕ) (t : Term) (set : PhaseSet) (a b : Vec Row Global) → k < length ns → IsAt v (get_or ns k d) t → slice_get v.reached (get_or ns k d) ≡ Some set → AddsParts (λ y p. CountsFor g t y p × IsTrue (has_phase set p)) 2 a b → IsGathered g v (take k ns) a.items → IsGathered g v (take (k + 1) ns) b.items
+gather_more g v ns k d t set a b within at read adds m =
+    let n = get_or ns k d in
+    subst (λ (ms : List ℕ). IsGathered g v ms b.items) (sym (take_more ns k d within))
+    (record {
+      out = λ y p l. ⊎_elim
+          (λ l. let h = m.out y p l in (h.0, Contains-append_left (take k ns) (n ∷ []) h.0 h.1, h.2, h.3, h.4, h.5))
+          (λ new. (n, Contains-push (take k ns) n, t, at, new.0, (set, read, new.1)))
+          ((adds.lists y p).0 l);
+      into = λ y p (i, stands, t', at', counts, is). (adds.lists y p).1 (⊎_elim
+          (λ l. inl (m.into y p (i, l, t', at', counts, is)))
+          (λ same.
+          let entry : (t', at'.0) ≡ (t, at.0) = same_Some (t', at'.0) (t, at.0) (sym at'.1 ∙ ap (slice_get v.terminals) (sym same) ∙ at.1) in
+          let term : t' ≡ t = ap (λ (e : Term × PhaseSet). e.0) entry in
+          let held : is.0 ≡ set = same_Some is.0 set (sym is.1 ∙ ap (slice_get v.reached) (sym same) ∙ read) in
+          inr (subst (λ (u : Term). CountsFor g u y p) term counts, subst (λ (s : PhaseSet). IsTrue (has_phase s p)) held is.2))
+          (Contains-push_cases (take k ns) n i stands));
+      have = adds.in_some_phase m.have;
+    })
+
+pub gathered_out : (g : GraphView) (v : SearchView) (ns : List ℕ) (parts : List Row) → IsGathered g v ns parts → (y : ℕ) (p : Phase) → Lists parts y p → Counted g v y p
+gathered_out g v ns parts m y p l = let h = m.out y p l in (h.2, h.4, (h.0, h.3, h.5))
+
+pub gathered_in : (g : GraphView) (v : SearchView) (ns : List ℕ) (parts : List Row) → IsGathered g v ns parts → ((i : ℕ) (p : Phase) → IsSet v.reached i p → Contains ns i) → (y : ℕ) (p : Phase) → Counted g v y p → Lists parts y p
+gathered_in g v ns parts m every y p (t, counts, (i, at, is)) = m.into y p (i, every i p is, t, at, counts, is)

@@ -1,0 +1,119 @@
+-- What a search over the points of a graph keeps, and what it has marked when nothing waits.
+use Rattle.std.proofs.Common.{slice_get, Option, ◌≡◌, ◌⊎◌, ◌+◌, ◌<◌, ℕ, List, [], ◌∷◌, ◌++◌, length, Some, None, IsTrue, Contains, refl, sym, ap, ◌∙◌, subst, inl, inr, ⊎_elim, arith, length-append}
+use Rattle.std.proofs.lemmas.List.Elements.{Contains-append_left, Contains-push, Contains-push_cases}
+use Rattle.std.proofs.lemmas.Option.{same_Some}
+use Rattle.cim_model.specs.Reach.{Leads, Reaches}
+use Rattle.cim_words.specs.Phases.{has_phase}
+use Rattle.cim_words.specs.declared.phases.Phase.{Phase}
+use Rattle.cim_words.specs.declared.phases.PhaseSet.{PhaseSet}
+use Rattle.graph_pages.specs.Graph.{GraphView, star_of}
+use Rattle.graph_pages.specs.Walks.{Point, IsPoint, IsStart, Joined, Linked, Walks, HasSpoke}
+use Rattle.graph_pages.specs.declared.star.Star.{Star}
+use Rattle.graph_pages.specs.declared.term.Term.{Term}
+use Rattle.feeder_trace.specs.Numbering.{IsOwn, IsNumbered}
+use Rattle.feeder_trace.specs.Search.{SearchView, IsSet, IsMarked, IsPopped, MarksAll, Waits, unmarked}
+use Rattle.feeder_trace.specs.Spread.{AmongSpokes, JoinedFrom}
+use Rattle.feeder_trace.proofs.SpreadLemmas.{contains_nothing}
+
+some_none : {X : Type 0} (x : X) → ◌≡◌ {A = Option X} (Some x) None → ⊥
+some_none x e = cc
+
+leads_step : {V : Type 0} (link : V → V → Type 0) (a : V) (cs : List V) (b c : V) → Leads link a cs b → link b c → Leads link a (cs ++ c ∷ []) c
+leads_step link a [] b c along next = (subst (λ x. link x c) (sym along) next, refl)
+leads_step link a (d ∷ ds) b c along next = (along.0, leads_step link d ds b c along.1 next)
+
+-- each start is reached, and what is linked from a reached point
+pub reaches_start : {V : Type 0} (link : V → V → Type 0) (start : V → Type 0) (a : V) → start a → Reaches link start a
+reaches_start link start a begins = (a, begins, [], refl)
+
+pub reaches_step : {V : Type 0} (link : V → V → Type 0) (start : V → Type 0) (b c : V) → Reaches link start b → link b c → Reaches link start c
+reaches_step link start b c r next = (r.0, r.1, r.2 ++ c ∷ [], leads_step link r.0 r.2 b c r.3 next)
+
+leads_induction : {V : Type 0} (link : V → V → Type 0) (P : V → Type 0) → ((b c : V) → P b → link b c → P c) → (a : V) (cs : List V) (v : V) → P a → Leads link a cs v → P v
+leads_induction link P carried a [] v at_a along = subst P along at_a
+leads_induction link P carried a (c ∷ cs) v at_a along = leads_induction link P carried c cs v (carried a c at_a along.0) along.1
+
+-- what holds at each start, and is carried by each link, holds wherever a walk comes
+pub reaches_induction : {V : Type 0} (link : V → V → Type 0) (start : V → Type 0) (P : V → Type 0) → ((a : V) → start a → P a) → ((b c : V) → P b → link b c → P c) → (v : V) → Reaches link start v → P v
+reaches_induction link start P begins carried v r = leads_induction link P carried r.0 r.2 v (begins r.0 r.1) r.3
+
+-- Where a search stands: what is marked is walked, each start is marked, and so is each point linked from a marked one that does not wait.
+pub record IsWalk (g : GraphView) (x : ℕ) (asked : PhaseSet) (v : SearchView) : Type 0 where
+  pub sound : (a : Point) → IsMarked v a → Walks g x asked a
+  pub begun : (a : Point) → IsStart g x asked a → IsMarked v a
+  pub waiting : (a : Point) → Waits v a → IsMarked v a
+  pub closed : (a b : Point) → IsMarked v a → Linked g a b → Waits v a ⊎ IsMarked v b
+
+walks_point : (g : GraphView) (x : ℕ) (asked : PhaseSet) (a : Point) → Walks g x asked a → IsPoint g a
+walks_point g x asked = reaches_induction (Linked g) (IsStart g x asked) (IsPoint g) (λ a s. s.point) (λ b c at next. next.to)
+
+own_point : (g : GraphView) (terminals : List (Term × PhaseSet)) → IsNumbered g terminals → (a : Point) → IsOwn terminals a → IsPoint g a
+own_point g terminals numbered a (phases, has, holds) = subst (λ (s : PhaseSet). IsTrue (has_phase s a.phase)) (numbered.sound a.term phases has) holds
+
+-- when the star's terminals are marked, and nothing else
+pub walk_begins : (g : GraphView) (x : ℕ) (star : Star) (asked : PhaseSet) (a b : SearchView) → IsNumbered g a.terminals → star_of g x ≡ Some star → ((i : ℕ) (p : Phase) → IsSet a.reached i p → ⊥) → a.pending ≡ [] → MarksAll (AmongSpokes star.spokes None asked) a b → IsWalk g x asked b
+walk_begins g x star asked a b numbered at unmarked_all none m =
+    let nothing_marked : (c : Point) → IsMarked a c → ⊥ = λ c h. unmarked_all h.0 c.phase h.2 in
+    let nothing_waits : (c : Point) → Waits a c → ⊥ = λ c h. contains_nothing (c.term, h.0) (subst (λ (ws : List (Term × PhaseSet)). Contains ws (c.term, h.0)) none h.1) in
+    record {
+      sound = λ c h. ⊎_elim
+          (λ old. absurd (nothing_marked c old))
+          (λ new. reaches_start (Linked g) (IsStart g x asked) c (record { star = star; of_source = at; listed = new.0.0; point = own_point g a.terminals numbered c new.1; in_asked = new.0.2 }))
+          (m.only c h);
+      begun = λ c s.
+          let same : s.star ≡ star = same_Some s.star star (sym s.of_source ∙ at) in
+          m.marked c (subst (λ (st : Star). HasSpoke st c.term) same s.listed, (λ e. some_none c.term e), s.in_asked) (numbered.complete c s.point);
+      waiting = λ c w. ⊎_elim (λ old. absurd (nothing_waits c old)) (λ h. h) (m.waits_only c w);
+      closed = λ c d h next. ⊎_elim (λ old. absurd (nothing_marked c old)) (λ new. inl new.2) (m.only c h);
+    }
+
+-- when all that is joined to what waited last is marked
+pub walk_goes_on : (g : GraphView) (x : ℕ) (asked : PhaseSet) (next : Term × PhaseSet) (a b c : SearchView) → IsNumbered g a.terminals → IsWalk g x asked a → IsPopped next a b → MarksAll (JoinedFrom g next.0 next.1) b c → IsWalk g x asked c
+walk_goes_on g x asked next a b c numbered walk popped m =
+    let numbered_b : IsNumbered g b.terminals = subst (IsNumbered g) (sym popped.same_terminals) numbered in
+    let back : (y : Point) → IsMarked b y → IsMarked a y = λ y h. subst (λ (ts : List (Term × PhaseSet)). (i : ℕ) × ((phases : PhaseSet) × (slice_get ts i ≡ Some (y.term, phases))) × IsSet a.reached i y.phase) popped.same_terminals (subst (λ (rs : List PhaseSet). (i : ℕ) × ((phases : PhaseSet) × (slice_get b.terminals i ≡ Some (y.term, phases))) × IsSet rs i y.phase) popped.same_reached h) in
+    let forth : (y : Point) → IsMarked a y → IsMarked b y = λ y h. subst (λ (ts : List (Term × PhaseSet)). (i : ℕ) × ((phases : PhaseSet) × (slice_get ts i ≡ Some (y.term, phases))) × IsSet b.reached i y.phase) (sym popped.same_terminals) (subst (λ (rs : List PhaseSet). (i : ℕ) × ((phases : PhaseSet) × (slice_get a.terminals i ≡ Some (y.term, phases))) × IsSet rs i y.phase) (sym popped.same_reached) h) in
+    let into : (w : Term × PhaseSet) → Contains (b.pending ++ next ∷ []) w → Contains a.pending w = λ w h. subst (λ (ws : List (Term × PhaseSet)). Contains ws w) (sym popped.pending) h in
+    let out : (w : Term × PhaseSet) → Contains a.pending w → Contains (b.pending ++ next ∷ []) w = λ w h. subst (λ (ws : List (Term × PhaseSet)). Contains ws w) popped.pending h in
+    let popped_marked : (p : Phase) → IsTrue (has_phase next.1 p) → IsMarked a (record { term = next.0; phase = p }) = λ p h. walk.waiting (record { term = next.0; phase = p }) (next.1, into next (Contains-push b.pending next), h) in
+    record {
+      sound = λ y h. ⊎_elim
+          (λ old. walk.sound y (back y old))
+          (λ (may, own, waits).
+          let from : Point = record { term = next.0; phase = may.0 } in
+          let walked = walk.sound from (popped_marked may.0 may.1) in
+          reaches_step (Linked g) (IsStart g x asked) from y walked (record { from = walks_point g x asked from walked; to = own_point g b.terminals numbered_b y own; joined = may.2 }))
+          (m.only y h);
+      begun = λ y s. m.kept y (forth y (walk.begun y s));
+      waiting = λ y w. ⊎_elim
+          (λ old. m.kept y (forth y (walk.waiting y (old.0, into (y.term, old.0) (Contains-append_left b.pending (next ∷ []) (y.term, old.0) old.1), old.2))))
+          (λ h. h)
+          (m.waits_only y w);
+      closed = λ y z h link. ⊎_elim
+          (λ old. ⊎_elim
+          (λ waited. ⊎_elim
+          (λ l. inl (m.waits y (waited.0, l, waited.2)))
+          (λ same.
+          let at : next.0 ≡ y.term = ap (λ (w : Term × PhaseSet). w.0) same in
+          let set : next.1 ≡ waited.0 = ap (λ (w : Term × PhaseSet). w.1) same in
+          inr (m.marked z (y.phase, subst (λ (s : PhaseSet). IsTrue (has_phase s y.phase)) (sym set) waited.2, subst (λ (t : Term). Joined g (record { term = t; phase = y.phase }) z) (sym at) link.joined) (numbered_b.complete z link.to)))
+          (Contains-push_cases b.pending next (y.term, waited.0) (out (y.term, waited.0) waited.1)))
+          (λ there. inr (m.kept z (forth z there)))
+          (walk.closed y z (back y old) link))
+          (λ new. inl new.2)
+          (m.only y h);
+    }
+
+-- when nothing waits, what is walked is marked
+pub walk_ends : (g : GraphView) (x : ℕ) (asked : PhaseSet) (v : SearchView) → IsWalk g x asked v → v.pending ≡ [] → (a : Point) → Walks g x asked a → IsMarked v a
+walk_ends g x asked v walk none =
+    reaches_induction (Linked g) (IsStart g x asked) (IsMarked v) walk.begun
+    (λ b c h next. ⊎_elim
+    (λ waits. contains_nothing (b.term, waits.0) (subst (λ (ws : List (Term × PhaseSet)). Contains ws (b.term, waits.0)) none waits.1))
+    (λ there. there)
+    (walk.closed b c h next))
+
+-- each step leaves less to do
+pub walk_falls : (next : Term × PhaseSet) (may : Point → Type 0) (a b c : SearchView) → IsPopped next a b → MarksAll may b c → unmarked c.reached + length c.pending < unmarked a.reached + length a.pending
+walk_falls next may a b c popped m =
+    omega (arith, m.work, ap unmarked popped.same_reached, ap length popped.pending, length-append b.pending (next ∷ []))

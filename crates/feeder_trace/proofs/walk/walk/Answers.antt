@@ -1,0 +1,34 @@
+use Rattle.std.proofs.Common.{List, None, ap, sym, ◌∙◌, subst}
+use Rattle.graph_pages.specs.declared.star.Spoke.{Spoke}
+use Rattle.feeder_trace.specs.Numbering.{IsNumbered}
+use Rattle.feeder_trace.specs.Search.{MarksAll}
+use Rattle.feeder_trace.specs.Spread.{AmongSpokes, JoinedFrom}
+use Rattle.feeder_trace.specs.SearchView.{SearchView}
+use Rattle.feeder_trace.proofs.WalkLemmas.{IsWalk, walk_begins, walk_goes_on, walk_ends, walk_falls}
+use Rattle.feeder_trace.proofs.walk.walk.Goals as goal
+
+pub loop-term-init : goal.loop-term-init
+loop-term-init c = (
+  c.reach_spokes.ensures.same_terminals ∙ c.clear.ensures.terminals,
+  walk_begins c.args.graph.now c.args.star.now.id.number c.args.star.now c.args.phases c.clear.new.self c.reach_spokes.new.search
+      (subst (IsNumbered c.args.graph.now) (sym c.clear.ensures.terminals) c.requires.terminals) c.requires.star c.clear.ensures.reached c.clear.ensures.pending
+      (subst (λ (spokes : List Spoke). MarksAll (AmongSpokes spokes None c.args.phases) c.clear.new.self c.reach_spokes.new.search) c.as_slice.ensures c.reach_spokes.ensures),
+)
+
+pub loop-term-preserved : goal.loop-term-preserved
+loop-term-preserved c = (
+  c.spread.ensures.same_terminals ∙ c.in-Some.ensures.some.same_terminals ∙ c.loop-term.invariant.0,
+  walk_goes_on c.args.graph.now c.args.star.now.id.number c.args.phases (c.in-Some.term, c.in-Some.phases) c.loop-term.search c.next.new.self c.spread.new.search
+      (subst (IsNumbered c.args.graph.now) (sym c.loop-term.invariant.0) c.requires.terminals) c.loop-term.invariant.1 c.in-Some.ensures.some c.spread.ensures,
+)
+
+pub loop-term-smaller : goal.loop-term-smaller
+loop-term-smaller c =
+    walk_falls (c.in-Some.term, c.in-Some.phases) (JoinedFrom c.args.graph.now c.in-Some.term c.in-Some.phases) c.loop-term.search c.next.new.self c.spread.new.search c.in-Some.ensures.some c.spread.ensures
+
+pub returns-clause-walked : goal.returns-clause-walked
+returns-clause-walked c a =
+    let same = c.in_default.ensures.none.0 in
+    let walk = subst (λ (v : SearchView). IsWalk c.args.graph.now c.args.star.now.id.number c.args.phases v) (sym same) c.loop-term.invariant.1 in
+    let none = ap (λ (v : SearchView). v.pending) same ∙ c.in_default.ensures.none.1 in
+    (walk.sound a, walk_ends c.args.graph.now c.args.star.now.id.number c.args.phases c.next.new.self walk none a)

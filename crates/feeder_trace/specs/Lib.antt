@@ -1,0 +1,9 @@
+pub mod Lines
+pub mod Numbering
+pub mod Reserved
+pub mod Room
+pub mod Rows
+pub mod Search
+pub mod SearchView
+pub mod Spread
+pub mod Tracer

@@ -1,0 +1,51 @@
+-- What a search has marked, and what a step of it marks.
+use Rattle.std.specs.Prelude.{ℕ, ◌≡◌, ◌⊎◌, ◌+◌, ◌≤◌, ◌∷◌, ◌++◌, [], List, length, cond, sum_by, Some, slice_get, IsTrue, Contains}
+use Rattle.cim_words.specs.Phases.{has_phase}
+use Rattle.cim_words.specs.declared.phases.Phase.{Phase}
+use Rattle.cim_words.specs.declared.phases.PhaseSet.{PhaseSet}
+use Rattle.graph_pages.specs.Walks.{Point}
+use Rattle.graph_pages.specs.declared.term.Term.{Term}
+use Rattle.feeder_trace.specs.Numbering.{IsOwn}
+pub use Rattle.feeder_trace.specs.SearchView.{SearchView}
+
+-- the set at a number has a phase
+abbrev pub IsSet : List PhaseSet → ℕ → Phase → Type 0
+IsSet reached i p = (set : PhaseSet) × (slice_get reached i ≡ Some set) × IsTrue (has_phase set p)
+
+-- the terminal has this number
+abbrev pub IsAt : SearchView → ℕ → Term → Type 0
+IsAt v i t = (phases : PhaseSet) × (slice_get v.terminals i ≡ Some (t, phases))
+
+-- a point is marked; nobody has gone on from it
+abbrev pub IsMarked : SearchView → Point → Type 0
+IsMarked v a = (i : ℕ) × IsAt v i a.term × IsSet v.reached i a.phase
+
+abbrev pub Waits : SearchView → Point → Type 0
+Waits v a = (new : PhaseSet) × Contains v.pending (a.term, new) × IsTrue (has_phase new a.phase)
+
+-- how many phases a set lacks, and how many points have no mark
+abbrev pub lacking : PhaseSet → ℕ
+lacking set = cond set.a 0 1 + cond set.b 0 1 + cond set.c 0 1 + cond set.n 0 1 + cond set.s1 0 1 + cond set.s2 0 1
+
+abbrev pub unmarked : List PhaseSet → ℕ
+unmarked reached = sum_by lacking reached
+
+-- the points of a terminal in some phases
+abbrev pub AtTerm : Term → PhaseSet → Point → Type 0
+AtTerm t phases a = (a.term ≡ t) × IsTrue (has_phase phases a.phase)
+
+-- Each point that may be marked and is one of the terminals' own is marked afterwards, and those that had no mark before wait.
+pub record MarksAll (may : Point → Type 0) (old new : SearchView) : Type 0 where
+  pub same_terminals : new.terminals ≡ old.terminals
+  pub marked : (a : Point) → may a → IsOwn old.terminals a → IsMarked new a
+  pub kept : (a : Point) → IsMarked old a → IsMarked new a
+  pub only : (a : Point) → IsMarked new a → IsMarked old a ⊎ (may a × IsOwn old.terminals a × Waits new a)
+  pub waits : (a : Point) → Waits old a → Waits new a
+  pub waits_only : (a : Point) → Waits new a → Waits old a ⊎ IsMarked new a
+  pub work : unmarked new.reached + length new.pending ≤ unmarked old.reached + length old.pending
+
+-- what waited last is taken out
+pub record IsPopped (next : Term × PhaseSet) (old new : SearchView) : Type 0 where
+  pub same_terminals : new.terminals ≡ old.terminals
+  pub same_reached : new.reached ≡ old.reached
+  pub pending : old.pending ≡ new.pending ++ next ∷ []

@@ -1,0 +1,19 @@
+//! What a walk through the graph reaches from a piece of equipment, phase by phase.
+#![tactic(auto)]
+
+mod capacity;
+mod compare;
+mod gather;
+mod lines;
+mod merge;
+mod phases;
+mod search;
+mod spread;
+mod terminals;
+#[cfg(test)]
+mod tests;
+mod tracer;
+mod walk;
+
+pub use cim_words::NoMemory;
+pub use tracer::{NoSuch, Tracer};

@@ -1,0 +1,155 @@
+//! The marks of a search, and what is still to be looked at.
+
+ghost use Rattle.std.specs.Prelude.{◌≡◌, ◌*◌, ℕ, ◌+◌, ◌≤◌, ◌<◌, ◌∷◌, ◌++◌, [], true, false, vec_len, length, IfOk, IfSome, IfNone, IsTrue, Contains, Some, slice_get, replicate};
+ghost use Rattle.std.specs.Vec.{vec_capacity};
+ghost use Rattle.cim_model.specs.Phases.{no_phases};
+ghost use Rattle.cim_words.specs.Phases.{has_no_phase};
+ghost use Rattle.cim_words.specs.declared.phases.Phase.{Phase};
+ghost use Rattle.cim_words.specs.declared.phases.PhaseSet.{PhaseSet};
+ghost use Rattle.graph_pages.specs.declared.term.Term.{Term};
+ghost use Rattle.feeder_trace.specs.Search.{IsAt, IsPopped, IsSet, MarksAll, SearchView, AtTerm};
+
+use crate::capacity::{put_within, times};
+use crate::phases::without;
+use crate::terminals::Terminals;
+use cim_words::{NoMemory, PhaseSet};
+use graph_pages::Term;
+use std::alloc::Global;
+use std::marker::Model;
+
+/// How many phases there are.
+const PHASES: usize = 6;
+
+/// The phases in which each terminal was reached, the terminals with the phases from which nobody has gone on, and the numbers of
+/// all terminals that were reached.
+#[derive(Drop)]
+pub(crate) struct Search {
+    terminals: Terminals,
+    reached: Vec<PhaseSet>,
+    pending: Vec<(Term, PhaseSet)>,
+    visited: Vec<usize>,
+}
+
+impl Model for Search {
+    ghost use Rattle.feeder_trace.specs.SearchView.{SearchView};
+
+    ghost Value = { SearchView };
+
+    ghost use Rattle.feeder_trace.specs.Room.{HasRoom, view_of};
+
+    ghost view = { view_of };
+
+    ghost invariant = { HasRoom };
+}
+
+impl Search {
+    /// A search over some terminals that has not begun, with the memory for all of it.
+    pub(crate) fn new(alloc: Global, terminals: Terminals) -> Result<Search, NoMemory>
+        ensures terminals { IfOk result (λ search. search.terminals ≡ terminals) }
+        ensures pending { IfOk result (λ search. search.pending ≡ []) }
+    {
+        let count = terminals.len();
+        let points = times(count, PHASES)?;
+        Ok(Search {
+            terminals,
+            reached: empty_sets(alloc, count)?,
+            pending: Vec::with_capacity(alloc, points)?,
+            visited: Vec::with_capacity(alloc, count)?,
+        })
+    }
+
+    /// How many terminals there are.
+    pub(crate) fn len(&self) -> usize
+        ensures { result ≡ length self.now.terminals }
+    {
+        self.terminals.len()
+    }
+
+    /// Takes all marks away.
+    pub(crate) fn clear(&mut self)
+        ensures terminals { self.new.terminals ≡ self.old.terminals }
+        ensures pending { self.new.pending ≡ [] }
+        ensures reached { (i : ℕ) (p : Phase) → IsSet self.new.reached i p → ⊥ }
+    {
+        unmark(&mut self.reached, &self.visited);
+        self.visited.clear();
+        self.pending.clear();
+    }
+
+    /// A terminal from which nobody has gone on in some phases, and these phases.
+    pub(crate) fn next(&mut self) -> Option<(Term, PhaseSet)>
+        ensures some { IfSome result (λ next. IsPopped next self.old self.new) }
+        ensures none { IfNone result ((self.new ≡ self.old) × (self.old.pending ≡ [])) }
+    {
+        self.pending.pop()
+    }
+
+    /// Marks a terminal in those of some phases that are its own.
+    pub(crate) fn reach(&mut self, term: Term, phases: PhaseSet)
+        ensures { MarksAll (AtTerm term phases) self.old self.new }
+    {
+        let Some((index, own)) = self.terminals.find(term) else {
+            return;
+        };
+        let before = self.reached[index];
+        let new = without(phases.meet(own), before);
+        if new.is_empty() {
+            return;
+        }
+        note_first(&mut self.visited, index, before);
+        self.reached[index] = before.join(new);
+        put_within(&mut self.pending, (term, new));
+    }
+
+    /// The terminal with a number, and the phases in which it was reached.
+    pub(crate) fn at(&self, index: usize) -> Option<(Term, PhaseSet)>
+        ensures some { IfSome result (λ at. IsAt self.now index at.0 × (slice_get self.now.reached index ≡ Some at.1)) }
+        ensures every { (t : Term) (set : PhaseSet) → IsAt self.now index t → slice_get self.now.reached index ≡ Some set → result ≡ Some (t, set) }
+    {
+        let term = self.terminals.term(index)?;
+        Some((term, self.reached[index]))
+    }
+
+    /// The numbers of the terminals that were reached.
+    pub(crate) fn visited(&self) -> &[usize]
+        ensures numbers { result.now ≡ self.now.visited }
+        ensures every { (i : ℕ) (p : Phase) → IsSet self.now.reached i p → Contains self.now.visited i }
+        ensures bound { length self.now.visited ≤ length self.now.terminals }
+    {
+        &self.visited
+    }
+}
+
+/// So many sets without phases.
+fn empty_sets(alloc: Global, count: usize) -> Result<Vec<PhaseSet>, NoMemory>
+    ensures { IfOk result (λ sets. sets.items ≡ replicate count no_phases) }
+{
+    let mut sets = Vec::new(alloc);
+    sets.resize(count, PhaseSet::EMPTY)?;
+    Ok(sets)
+}
+
+/// Notes the number of a terminal that was not reached before.
+fn note_first(visited: &mut Vec<usize>, index: usize, before: PhaseSet)
+    requires { has_no_phase before ≡ true → vec_len visited.old < vec_capacity visited.old }
+    ensures first { has_no_phase before ≡ true → visited.new.items ≡ visited.old.items ++ index ∷ [] }
+    ensures again { has_no_phase before ≡ false → visited.new.items ≡ visited.old.items }
+    ensures capacity { vec_capacity visited.old ≤ vec_capacity visited.new }
+{
+    if before.is_empty() {
+        put_within(visited, index);
+    }
+}
+
+/// Takes the marks at some numbers away.
+fn unmark(reached: &mut Vec<PhaseSet>, visited: &[usize])
+    ensures length { length reached.new.items ≡ length reached.old.items }
+    ensures unmarked { (i : ℕ) (p : Phase) → IsSet reached.new.items i p → IsSet reached.old.items i p × (Contains visited.now i → ⊥) }
+{
+    for &index in visited {
+        if index >= reached.len() {
+            continue;
+        }
+        reached[index] = PhaseSet::EMPTY;
+    }
+}

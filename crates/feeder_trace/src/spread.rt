@@ -1,0 +1,123 @@
+//! Where current goes on from a terminal.
+
+ghost use Rattle.std.specs.Prelude.{◌≡◌, ◌↔◌, IsTrue, Some, Option, option_map};
+ghost use Rattle.graph_pages.specs.Graph.{star_of};
+ghost use Rattle.graph_pages.specs.Walks.{line_at, own_or_on, place_at};
+ghost use Rattle.feeder_trace.specs.Lines.{shown_line};
+ghost use Rattle.feeder_trace.specs.Search.{MarksAll};
+ghost use Rattle.feeder_trace.specs.Spread.{AlongLineOf, AmongMembers, AmongSpokes, AtPlaceOf, InSectionOf, InSections, JoinedFrom, PassedFrom};
+
+use crate::compare::terms_are_compared;
+use crate::lines::{Line, line_under, spoke_in};
+use crate::phases::transformed;
+use crate::search::Search;
+use cim_words::PhaseSet;
+use graph_pages::{Graph, Pass, Section, Spoke, Star, Term};
+
+/// Marks all to which current goes on from a terminal in some phases.
+pub(crate) fn spread(search: &mut Search, graph: &Graph, term: Term, phases: PhaseSet)
+    ensures { MarksAll (JoinedFrom graph.now term phases) search.old search.new }
+{
+    let Some(star) = graph.star(term.owner) else {
+        return;
+    };
+    at_place(search, graph, star, term, phases);
+    along_line(search, graph, star, term, phases);
+    through_star(search, star, term, phases);
+}
+
+/// Marks the terminals at the place where a terminal of a star stands.
+fn at_place(search: &mut Search, graph: &Graph, star: &Star, term: Term, phases: PhaseSet)
+    requires { star_of graph.now term.owner.number ≡ Some star.now }
+    ensures { MarksAll (AtPlaceOf graph.now term phases) search.old search.new }
+{
+    let Some(spoke) = spoke_in(star, term) else {
+        return;
+    };
+    let Some(place) = spoke.at else {
+        return;
+    };
+    let Some(members) = graph.members(place) else {
+        return;
+    };
+    reach_members(search, members.as_slice(), phases);
+}
+
+/// Marks the terminals in the sections of the line on which a terminal of a star stands.
+fn along_line(search: &mut Search, graph: &Graph, star: &Star, term: Term, phases: PhaseSet)
+    requires { star_of graph.now term.owner.number ≡ Some star.now }
+    ensures { MarksAll (AlongLineOf graph.now term phases) search.old search.new }
+{
+    let Some(line) = line_under(graph, star) else {
+        return;
+    };
+    in_section(search, line, term, phases);
+}
+
+/// Marks the terminals in the sections of a line in which a terminal is, in the line's phases.
+fn in_section(search: &mut Search, line: Line<'_>, term: Term, phases: PhaseSet)
+    ensures { MarksAll (InSectionOf (shown_line line.entry) term phases) search.old search.new }
+{
+    terms_are_compared();
+    let phases = phases.meet(line.phases);
+    for section in line.sections.as_slice() {
+        if !section.as_slice().contains(&term) {
+            continue;
+        }
+        reach_members(search, section.as_slice(), phases);
+    }
+}
+
+/// Marks the terminals to which a star passes current from one of its own.
+fn through_star(search: &mut Search, star: &Star, term: Term, phases: PhaseSet)
+    ensures { MarksAll (PassedFrom star.now term phases) search.old search.new }
+{
+    let spokes = star.spokes.as_slice();
+    match &star.pass {
+        Pass::Same => reach_spokes(search, spokes, None, phases),
+        Pass::Switch { is_open } => {
+            if !*is_open {
+                reach_spokes(search, spokes, None, phases);
+            }
+        }
+        Pass::Transformer => reach_spokes(search, spokes, Some(term), transformed(phases)),
+        Pass::Nothing | Pass::Line { .. } => {}
+    }
+}
+
+/// Marks terminals in some phases.
+fn reach_members(search: &mut Search, members: &[Term], phases: PhaseSet)
+    ensures { MarksAll (AmongMembers members.now phases) search.old search.new }
+{
+    for &term in members {
+        search.reach(term, phases);
+    }
+}
+
+/// Whether a terminal is the one that is left out.
+fn is_excepted(term: Term, except: Option<Term>) -> bool
+    ensures { IsTrue result ↔ (Some term ≡ except) }
+{
+    terms_are_compared();
+    match except {
+        Some(other) => term == other,
+        None => false,
+    }
+}
+
+/// Marks the terminals of some spokes in some phases, but one of them.
+pub(crate) fn reach_spokes(
+    search: &mut Search,
+    spokes: &[Spoke],
+    except: Option<Term>,
+    phases: PhaseSet,
+)
+    ensures { MarksAll (AmongSpokes spokes.now except phases) search.old search.new }
+{
+    for spoke in spokes {
+        if is_excepted(spoke.term, except) {
+            continue;
+        }
+        search.reach(spoke.term, phases);
+    }
+}
