@@ -9,17 +9,18 @@ use Rattle.cim_words.proofs.PhaseTexts.{phase_text-injective}
 use Rattle.nt_text.proofs.Readings.{some_is}
 use Rattle.room.specs.Base.{IsBase, RefusesBase}
 use Rattle.room.specs.Command.{IsCommand, IsCheckCommand, IsTraceCommand}
-use Rattle.room.specs.Network.{IsEquipment}
+use Rattle.cim_model.specs.Links.{IsReached}
+use Rattle.cim_model.specs.Network.{IsUnmarked}
+use Rattle.room.specs.Marks.{IsMarked}
 use Rattle.room.specs.Run.{Answers, Asks, IsNoCommand, IsTraced, Reads, RefusesTask, Tells, is_answer}
 use Rattle.room.specs.Status.{status_line}
-use Rattle.room.specs.Trace.{IsTrace}
 use Rattle.room.specs.TraceText.{trace_text}
 use Rattle.room.specs.declared.status.Status.{Status}
 use Rattle.room.specs.declared.status.Status.TheVariants as status
 use Rattle.room.specs.declared.task.Task.{Task}
 use Rattle.room.specs.declared.task.Task.TheVariants as task
 use Rattle.room.proofs.OneBase.{one_set, base_or_refused, one_refusal}
-use Rattle.room.proofs.OneTrace.{one_trace}
+use Rattle.cim_model.proofs.OneTrace.{one_trace}
 
 -- words name one base and ask for one task
 same_trace : (a b : Id) (p q : PhaseSet) → a.number ≡ b.number → p ≡ q → task.Trace a p ≡ task.Trace b q
@@ -51,12 +52,18 @@ one_command words name name' (task.Trace source phases) (task.Trace source' phas
 -- a task tells one text of a set, or nothing for one reason
 one_text : (asked : Task) (set : List Statement) (x y : List ℕ) → Tells asked set x → Tells asked set y → x ≡ y
 one_text task.Check set x y a b = a ∙ sym b
-one_text (task.Trace source phases) set x y a b = a.is_text ∙ ap trace_text (one_trace set source.number phases a.rows b.rows a.trace b.trace) ∙ sym b.is_text
+one_text (task.Trace source phases) set x y a b = a.is_text ∙ ap trace_text (one_trace (IsReached set source.number phases) a.rows b.rows a.trace b.trace) ∙ sym b.is_text
+
+yes_or_no : {P : Type 0} → true ≡ false → P
+yes_or_no same = absurd cc
+
+marked_or_not : {P : Type 0} (set : List Statement) → IsMarked set → IsUnmarked set → P
+marked_or_not set marked unmarked = yes_or_no (sym marked.1 ∙ unmarked marked.0)
 
 told_or_not : (asked : Task) (set : List Statement) (x : List ℕ) (s : Status) → IsTrue (is_answer s) → Tells asked set x → RefusesTask asked set s → ⊥
 told_or_not task.Check set x s is a none = none
-told_or_not (task.Trace source phases) set x status.Later is a none = none a.plain
-told_or_not (task.Trace source phases) set x status.Asked is a none = none.1 a.equipment
+told_or_not (task.Trace source phases) set x status.Later is a none = marked_or_not set none a.unmarked
+told_or_not (task.Trace source phases) set x status.Asked is a none = yes_or_no (sym a.equipment ∙ none.1)
 told_or_not (task.Trace source phases) set x status.NoMemory is a none = let no : false ≡ true = is in absurd cc
 told_or_not (task.Trace source phases) set x status.Ok is a none = none
 told_or_not (task.Trace source phases) set x status.Usage is a none = none
@@ -69,8 +76,8 @@ told_or_not (task.Trace source phases) set x status.WriteFault is a none = none
 one_reason : (asked : Task) (set : List Statement) (s t : Status) → IsTrue (is_answer s) → IsTrue (is_answer t) → RefusesTask asked set s → RefusesTask asked set t → s ≡ t
 one_reason task.Check set s t is is' a b = absurd a
 one_reason (task.Trace source phases) set status.Later status.Later is is' a b = refl
-one_reason (task.Trace source phases) set status.Later status.Asked is is' a b = absurd (a b.0)
-one_reason (task.Trace source phases) set status.Asked status.Later is is' a b = absurd (b a.0)
+one_reason (task.Trace source phases) set status.Later status.Asked is is' a b = marked_or_not set a b.0
+one_reason (task.Trace source phases) set status.Asked status.Later is is' a b = marked_or_not set b a.0
 one_reason (task.Trace source phases) set status.Asked status.Asked is is' a b = refl
 one_reason (task.Trace source phases) set status.NoMemory t is is' a b = let no : false ≡ true = is in absurd cc
 one_reason (task.Trace source phases) set s status.NoMemory is is' a b = let no : false ≡ true = is' in absurd cc

@@ -1,5 +1,8 @@
 -- What the program answers: a status and a text, by the words of its command and by what the shelf tells.
-use Rattle.std.specs.Prelude.{ℕ, ◌≡◌, ◌⊎◌, List, [], length, Option, IfSome, Bool, true, false, Result, Ok, Err}
+use Rattle.std.specs.Prelude.{ℕ, ◌≡◌, ◌⊎◌, List, [], length, Option, IfSome, Bool, true, false, IsTrue, Result, Ok, Err}
+use Rattle.cim_model.specs.Links.{IsReached}
+use Rattle.cim_model.specs.Network.{IsUnmarked, is_equipment}
+use Rattle.cim_model.specs.Trace.{IsTrace, Row}
 use Rattle.cim_words.specs.declared.phases.PhaseSet.{PhaseSet}
 use Rattle.cim_words.specs.declared.statement.Statement.{Statement}
 use Rattle.grid_out.specs.declared.reading.ShelfFault.{ShelfFault}
@@ -10,7 +13,6 @@ use Rattle.nt_text.specs.declared.refusal.NtFault.{NtFault}
 use Rattle.nt_text.specs.declared.refusal.NtFault.TheVariants as nt_fault
 use Rattle.statement_set.specs.declared.refusal.SetRefusal.{SetRefusal}
 use Rattle.statement_set.specs.declared.refusal.SetRefusal.TheVariants as set_refusal
-use Rattle.room.specs.declared.network.Row.{Row}
 use Rattle.room.specs.declared.status.Status.{Status}
 use Rattle.room.specs.declared.status.Status.TheVariants as status
 use Rattle.room.specs.declared.task.Task.{Task}
@@ -18,10 +20,8 @@ use Rattle.room.specs.declared.task.Task.TheVariants as task
 use Rattle.room.specs.Base.{IsBase, RefusesBase}
 use Rattle.room.specs.CheckText.{check_text}
 use Rattle.room.specs.Command.{IsCommand}
-use Rattle.room.specs.Network.{IsEquipment}
-use Rattle.room.specs.Plain.{IsPlain}
+use Rattle.room.specs.Marks.{IsMarked}
 use Rattle.room.specs.Status.{status_line}
-use Rattle.room.specs.Trace.{IsTrace}
 use Rattle.room.specs.TraceText.{trace_text}
 
 -- the words are no command of this program
@@ -40,12 +40,12 @@ pub record Reads (told : List ℕ → Option (List ℕ)) (words : List (List ℕ
   pub set : List Statement
   pub of_base : IfSome (told asks.name) (λ bytes. IsBase bytes set)
 
--- the text is the trace of a plain network from a piece of its equipment
+-- the text is the trace of a network without cuts and clamps from a piece of its equipment
 pub record IsTraced (set : List Statement) (source : ℕ) (phases : PhaseSet) (text : List ℕ) : Type 0 where
-  pub plain : IsPlain set
-  pub equipment : IsEquipment set source
+  pub unmarked : IsUnmarked set
+  pub equipment : IsTrue (is_equipment set source)
   pub rows : List Row
-  pub trace : IsTrace set source phases rows
+  pub trace : IsTrace (IsReached set source phases) rows
   pub is_text : text ≡ trace_text rows
 
 -- what a task tells of a set of statements: a check tells how many they are
@@ -53,10 +53,10 @@ abbrev pub Tells : Task → List Statement → List ℕ → Type 0
 Tells task.Check set text = text ≡ check_text (length set)
 Tells (task.Trace source phases) set text = IsTraced set source.number phases text
 
--- why a task tells nothing of a set: a trace knows plain networks alone so far, and begins at equipment
+-- why a task tells nothing of a set: a trace knows no cuts and clamps so far, and begins at equipment
 abbrev pub RefusesTrace : List Statement → ℕ → Status → Type 0
-RefusesTrace set source status.Later = IsPlain set → ⊥
-RefusesTrace set source status.Asked = IsPlain set × (IsEquipment set source → ⊥)
+RefusesTrace set source status.Later = IsMarked set
+RefusesTrace set source status.Asked = IsUnmarked set × (is_equipment set source ≡ false)
 RefusesTrace set source status.NoMemory = Unit {0}
 RefusesTrace set source _ = ⊥
 

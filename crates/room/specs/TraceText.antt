@@ -5,11 +5,11 @@ use Rattle.std.specs.Fmt.{decimal}
 use Rattle.cim_words.specs.IdText.{id_text}
 use Rattle.cim_words.specs.Phases.{phase_text}
 use Rattle.cim_words.specs.Written.{line_feed}
-use Rattle.room.specs.declared.network.Row.{Row}
+use Rattle.cim_model.specs.Trace.{Row}
 
 -- a row: the identifier, a space, the phases, and a line feed
 abbrev pub row_text : Row → List ℕ
-row_text row = id_text row.equipment.number ++ codes " " ++ phase_text row.phases ++ line_feed ∷ []
+row_text row = id_text row.0.number ++ codes " " ++ phase_text row.1 ++ line_feed ∷ []
 
 -- the first line: `trace`, the number of the prefix (0 for a base alone) and the number of rows
 abbrev pub head_text : ℕ → List ℕ

@@ -3,20 +3,16 @@
 ghost use Rattle.std.specs.Prelude.{◌≡◌, ◌≤◌, ℕ, List, length, map, string_bytes, IfOk, IfErr, IsTrue};
 ghost use Rattle.grid_out.specs.Faults.{CountsFaults};
 ghost use Rattle.room.specs.Base.{base_limit};
-ghost use Rattle.room.specs.Run.{Answers, IsTold, IsUntold, IsTraced, RefusesTrace, is_failed_read, is_refusal};
+ghost use Rattle.room.specs.Run.{Answers, IsTold, IsUntold, is_failed_read, is_refusal};
 ghost use Rattle.room.specs.Status.{status_line};
 
 use crate::base::read_base;
 use crate::check_text::write_check;
 use crate::command::command;
-use crate::network::trace;
-use crate::plain::are_plain;
 use crate::status::Status;
 use crate::task::Task;
-use crate::trace_text::write_trace;
-use cim_words::{Id, PhaseSet};
+use crate::tracing::trace_of;
 use grid_out::Shelf;
-use statement_set::StatementSet;
 use std::alloc::Global;
 
 /// The most bytes that a base may have.
@@ -55,24 +51,4 @@ fn answer_of(alloc: Global, bytes: Vec<u8>, task: Task) -> Result<Vec<u8>, Statu
         Task::Check => Ok(write_check(alloc, set.len())?),
         Task::Trace { source, phases } => trace_of(alloc, &set, source, phases),
     }
-}
-
-/// The text of a trace of a set of statements.
-fn trace_of(
-    alloc: Global,
-    set: &StatementSet,
-    source: Id,
-    phases: PhaseSet,
-) -> Result<Vec<u8>, Status>
-    ensures traced { IfOk result (λ text. IsTraced set.now source.number phases text.items) }
-    ensures refused { IfErr result (RefusesTrace set.now source.number) }
-{
-    let statements = set.statements();
-    if !are_plain(statements) {
-        return Err(Status::Later);
-    }
-    let Some(rows) = trace(alloc, statements, source, phases)? else {
-        return Err(Status::Asked);
-    };
-    Ok(write_trace(alloc, &rows)?)
 }

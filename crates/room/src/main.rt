@@ -2,27 +2,19 @@
 #![tactic(auto)]
 
 mod answer;
-mod attachments;
 mod base;
 mod check_text;
-mod classes;
 mod command;
 mod file_shelf;
-mod graph;
-mod ids;
 mod laws;
-mod network;
-mod numbering;
+mod marks;
 mod out_sink;
-mod plain;
 mod refusal_line;
 mod run;
-mod said;
-mod search;
 mod status;
 mod task;
-mod terminals;
 mod trace_text;
+mod tracing;
 
 use file_shelf::FileShelf;
 use out_sink::OutSink;

@@ -1,5 +1,9 @@
 //! Runs over content and an output in memory.
 
+mod ieee_13_node;
+mod networks;
+mod plain;
+
 use super::*;
 use cim_words::{Id, NoMemory};
 use grid_out::{Files, MemShelf, MemSink};
@@ -39,7 +43,7 @@ const FIRST: [(&str, &str, &str); 29] = [
     ("76", "Terminal.ConnectivityNode", "~a3"),
 ];
 
-/// A single-phase lateral, which the plain network does not know.
+/// A single-phase lateral.
 const LATERAL: [(&str, &str, &str); 12] = [
     ("a4", "a", "ConnectivityNode"),
     ("52", "a", "ACLineSegment"),
@@ -53,6 +57,38 @@ const LATERAL: [(&str, &str, &str); 12] = [
     ("78", "Terminal.ConnectivityNode", "~a4"),
     ("78", "Terminal.phases", "PhaseCode.A"),
     ("78", "ACDCTerminal.sequenceNumber", r#""2""#),
+];
+
+/// A transformer with a secondary of two phases and a neutral, and its consumer.
+const TRANSFORMER: [(&str, &str, &str); 15] = [
+    ("a5", "a", "ConnectivityNode"),
+    ("d1", "a", "PowerTransformer"),
+    ("c2", "a", "EnergyConsumer"),
+    ("79", "a", "Terminal"),
+    ("79", "Terminal.ConductingEquipment", "~d1"),
+    ("79", "Terminal.ConnectivityNode", "~a3"),
+    ("79", "Terminal.phases", "PhaseCode.A"),
+    ("7a", "a", "Terminal"),
+    ("7a", "Terminal.ConductingEquipment", "~d1"),
+    ("7a", "Terminal.ConnectivityNode", "~a5"),
+    ("7a", "Terminal.phases", "PhaseCode.s12N"),
+    ("7b", "a", "Terminal"),
+    ("7b", "Terminal.ConductingEquipment", "~c2"),
+    ("7b", "Terminal.ConnectivityNode", "~a5"),
+    ("7b", "Terminal.phases", "PhaseCode.s12N"),
+];
+
+/// A cut of the segment in its middle.
+const CUT: [(&str, &str, &str); 9] = [
+    ("92", "a", "Cut"),
+    ("92", "Cut.ACLineSegment", "~51"),
+    ("92", "Cut.lengthFromTerminal1", r#""60""#),
+    ("7d", "a", "Terminal"),
+    ("7d", "Terminal.ConductingEquipment", "~92"),
+    ("7d", "ACDCTerminal.sequenceNumber", r#""1""#),
+    ("7e", "a", "Terminal"),
+    ("7e", "Terminal.ConductingEquipment", "~92"),
+    ("7e", "ACDCTerminal.sequenceNumber", r#""2""#),
 ];
 
 /// What a model may carry without effect: names with language tags, datatypes, a model's header and a transformer's end.
@@ -154,11 +190,13 @@ fn long_line(alloc: Global, letters: usize) -> Result<String, NoMemory> {
     Ok(text)
 }
 
-/// Adds the first base as `b1`, with a lateral as `b2`, without the consumer's terminal's equipment as `b0`, and with what a
-/// model may carry as `b9`.
+/// Adds the first base as `b1`, with a lateral as `b2`, with a transformer as `b3`, with a cut as `b5`, without the consumer's
+/// terminal's equipment as `b0`, and with what a model may carry as `b9`.
 fn add_bases(alloc: Global, files: &mut Files) -> Result<(), NoMemory> {
     files.add("b1", base(alloc, 99, &[])?.as_bytes())?;
     files.add("b2", base(alloc, 99, &LATERAL)?.as_bytes())?;
+    files.add("b3", base(alloc, 99, &TRANSFORMER)?.as_bytes())?;
+    files.add("b5", base(alloc, 99, &CUT)?.as_bytes())?;
     files.add("b0", base(alloc, 27, &[])?.as_bytes())?;
     let mut text = base(alloc, 99, &[])?;
     text.push_str(identified(alloc, FURTHER)?.as_str())?;
@@ -237,8 +275,27 @@ fn traces_and_refusals(rt: HostRuntime) -> Result<(), Fail> {
         ("trace b1 ~e1 N", Status::Ok, 0, "trace 0 0/"),
         ("trace b1 ~a1 ABC", Status::Asked, 4, "asked/"),
         ("trace empty ~e1 ABC", Status::Asked, 4, "asked/"),
-        ("trace b2 ~e1 ABC", Status::Later, 8, "later/"),
-        ("trace b3 ~e1 ABC", Status::ReadFault, 1, "read fault/"),
+        (
+            "trace b2 ~e1 ABC",
+            Status::Ok,
+            0,
+            "trace 0 5/~51 ABC/~52 A/~b1 ABC/~c1 ABC/~e1 ABC/",
+        ),
+        (
+            "trace b3 ~e1 ABC",
+            Status::Ok,
+            0,
+            "trace 0 6/~51 ABC/~b1 ABC/~c1 ABC/~c2 s12/~d1 As12/~e1 ABC/",
+        ),
+        (
+            "trace b3 ~c2 s12N",
+            Status::Ok,
+            0,
+            "trace 0 2/~c2 s12N/~d1 s12N/",
+        ),
+        ("trace b5 ~e1 ABC", Status::Later, 8, "later/"),
+        ("check b5", Status::Ok, 0, "ok 38/"),
+        ("trace b8 ~e1 ABC", Status::ReadFault, 1, "read fault/"),
         ("check b1", Status::Ok, 0, "ok 29/"),
         ("check empty", Status::Ok, 0, "ok 0/"),
         ("check spellings", Status::Ok, 0, "ok 1/"),
@@ -295,7 +352,7 @@ fn traces_and_refusals(rt: HostRuntime) -> Result<(), Fail> {
         ),
         ("check b0", OWNERLESS, 3, "profile 3 ~76/"),
         ("trace b0 ~e1 ABC", OWNERLESS, 3, "profile 3 ~76/"),
-        ("check b3", Status::ReadFault, 1, "read fault/"),
+        ("check b8", Status::ReadFault, 1, "read fault/"),
         ("check", Status::Usage, 2, "usage/"),
         ("check -b1", Status::Usage, 2, "usage/"),
         ("check b1 b1", Status::Usage, 2, "usage/"),

@@ -1,0 +1,58 @@
+//! The trace of a base.
+
+ghost use Rattle.std.specs.Prelude.{◌≡◌, IfErr, IfOk};
+ghost use Rattle.cim_model.specs.Network.{IsUnmarked};
+ghost use Rattle.cim_model.specs.Profile.{IsFaultless};
+ghost use Rattle.link_rules.specs.Map.{IsMap};
+ghost use Rattle.room.specs.Run.{IsTraced, RefusesTrace};
+
+use crate::marks::has_marks;
+use crate::status::Status;
+use crate::trace_text::write_trace;
+use cim_records::Index;
+use cim_words::{Id, NoMemory, PhaseSet};
+use feeder_trace::{NoSuch, Tracer};
+use graph_pages::Graph;
+use room_words::Overlay;
+use statement_set::StatementSet;
+use std::alloc::Global;
+use std::marker::Brand;
+use std::sync::ledger::{Blank, Ledger};
+use step_count::Steps;
+use topology::{rebuild, walks_are_reach};
+
+/// The text of a trace of a base from a piece of its equipment.
+pub(crate) fn trace_of(
+    alloc: Global,
+    set: &StatementSet,
+    source: Id,
+    phases: PhaseSet,
+) -> Result<Vec<u8>, Status>
+    requires { IsFaultless set.now }
+    ensures traced { IfOk result (λ text. IsTraced set.now source.number phases text.items) }
+    ensures refused { IfErr result (RefusesTrace set.now source.number) }
+{
+    if has_marks(set.statements()) {
+        return Err(Status::Later);
+    }
+    let index = Index::build(alloc, set)?;
+    let graph = graph_of::<Brand>(alloc, &index, Blank::new(1))?;
+    let mut tracer = Tracer::reserve(alloc, &graph)?;
+    walks_are_reach();
+    match tracer.trace(&graph, source, phases) {
+        Ok(()) => Ok(write_trace(alloc, &tracer)?),
+        Err(NoSuch) => Err(Status::Asked),
+    }
+}
+
+/// The graph of an untouched network. Nobody counts its steps.
+fn graph_of<L: Ledger>(alloc: Global, index: &Index, blank: Blank) -> Result<Graph, NoMemory>
+    requires unmarked { IsUnmarked index.now }
+    requires name { blank.name ≡ L.name }
+    requires parts { blank.parts ≡ L.parts }
+    requires some { blank.parts ≡ 1 }
+    ensures { IfOk result (IsMap index.now) }
+{
+    let mut steps = Steps::<L>::of(blank);
+    rebuild(alloc, index, &Overlay::empty(alloc), &mut steps)
+}
