@@ -1,0 +1,112 @@
+-- The marks of a segment, and where their spots are.
+use Rattle.std.proofs.Common.{◌≡◌, ℕ, zero, suc, ◌<◌, ◌≤◌, ◌⊎◌, inl, inr, ◌==◌, List, [], ◌∷◌, length, get_or, Contains, Bool, true, false, cond, refl, sym, ap, ◌∙◌, subst, arith}
+use Rattle.std.specs.List.{AllPairs}
+use Rattle.std.proofs.lemmas.Bool.{cases_lt}
+use Rattle.std.proofs.lemmas.Bool.Decides.{nat_tests}
+use Rattle.std.proofs.lemmas.List.{get_or_default}
+use Rattle.std.proofs.lemmas.List.Elements.{All-contains}
+use Rattle.cim_words.specs.declared.identifier.Id.{Id}
+use Rattle.segment_cuts.specs.declared.mark.Mark.{Mark}
+use Rattle.segment_cuts.specs.declared.mark.Spot.{Spot}
+use Rattle.segment_cuts.specs.declared.mark.Spot.TheVariants.{EndOne, EndTwo, Clamp, CutOne, CutTwo}
+use Rattle.segment_cuts.specs.Sections.{AreMarks, IsOn, length_of, number, cut_number}
+
+-- ---- two items of a list whose items stand in a relation, one way or the other
+
+in_order : {X : Type 0} (R : X → X → Type 0) (xs : List X) → AllPairs R xs → (x y : X) (here : Contains xs x) (there : Contains xs y) → here.0 < there.0 → R x y
+in_order {X} R xs pairs x y here there less =
+    let stands : R (get_or xs here.0 x) (get_or xs there.0 x) = pairs here.0 there.0 x less there.1 in
+    let second : get_or xs there.0 x ≡ y = get_or_default xs there.0 x y there.1 ∙ there.2 in
+    subst (λ (z : X). R x z) second (subst (λ (z : X). R z (get_or xs there.0 x)) here.2 stands)
+
+at_one_place : {X : Type 0} (xs : List X) (x y : X) (here : Contains xs x) (there : Contains xs y) → here.0 ≡ there.0 → x ≡ y
+at_one_place {X} xs x y here there same = sym here.2 ∙ ap (λ (n : ℕ). get_or xs n x) same ∙ get_or_default xs there.0 x y there.1 ∙ there.2
+
+pub any_two : {X : Type 0} (R : X → X → Type 0) (xs : List X) → AllPairs R xs → (x y : X) → Contains xs x → Contains xs y → R x y ⊎ ((x ≡ y) ⊎ R y x)
+any_two {X} R xs pairs x y here there = first (cases_lt here.0 there.0)
+  where
+    second : there.0 ≤ here.0 → (there.0 < here.0) ⊎ (here.0 ≤ there.0) → R x y ⊎ ((x ≡ y) ⊎ R y x)
+    second upto (inl less) = inr (inr (in_order R xs pairs y x there here less))
+    second upto (inr most) = inr (inl (at_one_place xs x y here there (omega arith)))
+
+    first : (here.0 < there.0) ⊎ (there.0 ≤ here.0) → R x y ⊎ ((x ≡ y) ⊎ R y x)
+    first (inl less) = inl (in_order R xs pairs x y here there less)
+    first (inr upto) = second upto (cases_lt there.0 here.0)
+
+-- ---- the length of a mark
+
+same_id : (i j : Id) → i.number ≡ j.number → i ≡ j
+same_id i j e = ap (λ (n : ℕ). let made : Id = record { number = n } in made) e
+
+passed_over : (m : Mark) (ms : List Mark) (id : Id) → (m.id ≡ id → ⊥) → (b : Bool) → (m.id.number == id.number) ≡ b → cond b m.length.mm (length_of ms id) ≡ length_of ms id
+passed_over m ms id other false is = refl
+passed_over m ms id other true is = absurd (other (same_id m.id id (grind (arith, nat_tests))))
+
+found : (m : Mark) (ms : List Mark) (b : Bool) → (m.id.number == m.id.number) ≡ b → cond b m.length.mm (length_of ms m.id) ≡ m.length.mm
+found m ms true is = refl
+found m ms false is = absurd (grind (arith, nat_tests))
+
+length_at : (marks : List Mark) → AllPairs (λ (m n : Mark). ¬ (m.id ≡ n.id)) marks → (i : ℕ) (d : Mark) → i < length marks → length_of marks (get_or marks i d).id ≡ (get_or marks i d).length.mm
+length_at [] different i d within = absurd (omega arith)
+length_at (m ∷ ms) different zero d within = found m ms _ refl
+length_at (m ∷ ms) different (suc i) d within =
+    passed_over m ms (get_or ms i d).id (different 0 (suc i) d (omega arith) within) _ refl
+    ∙ length_at ms (λ a b e less below. different (suc a) (suc b) e (omega arith) (omega arith)) i d (omega arith)
+
+pub length_is : (marks : List Mark) → AreMarks marks → (m : Mark) → Contains marks m → length_of marks m.id ≡ m.length.mm
+length_is marks are m here = subst (λ (n : Mark). length_of marks n.id ≡ n.length.mm) here.2 (length_at marks are.different here.0 m here.1)
+
+pub length_of_mark : (marks : List Mark) → AreMarks marks → (id : Id) (m : Mark) → Contains marks m → m.id ≡ id → length_of marks id ≡ m.length.mm
+length_of_mark marks are id m here same = ap (length_of marks) (sym same) ∙ length_is marks are m here
+
+pub length_within : (marks : List Mark) → AreMarks marks → (m : Mark) → Contains marks m → m.length.mm ≤ 1000000000000
+length_within marks are m here = All-contains (λ (n : Mark). n.length.mm ≤ 1000000000000) marks m are.within here
+
+-- ---- marks at one length
+
+pub true_or_false : (b : Bool) → b ≡ true → b ≡ false → ⊥
+true_or_false b is isnt = cc
+
+pub one_cut_there : (marks : List Mark) → AreMarks marks → (m n : Mark) → Contains marks m → Contains marks n → m.divides ≡ true → m.length.mm ≡ n.length.mm → m ≡ n
+one_cut_there marks are m n here there cut same = cases (any_two (λ (a b : Mark). a.length ≡ b.length → (a.divides ≡ false) × (b.divides ≡ false)) marks are.apart m n here there)
+  where
+    at : m.length ≡ n.length
+    at = ap (λ (n : ℕ). record { mm = n }) same
+
+    cases : (m.length ≡ n.length → (m.divides ≡ false) × (n.divides ≡ false)) ⊎ ((m ≡ n) ⊎ (n.length ≡ m.length → (n.divides ≡ false) × (m.divides ≡ false))) → m ≡ n
+    cases (inl before) = absurd (true_or_false m.divides cut (before at).0)
+    cases (inr (inl is)) = is
+    cases (inr (inr after)) = absurd (true_or_false m.divides cut (after (sym at)).1)
+
+-- ---- no spot has the number of a cut itself
+
+at_cut : (marks : List Mark) → AreMarks marks → (m : Mark) → Contains marks m → m.divides ≡ true → (s : Spot) → IsOn marks s → number marks s ≡ cut_number m → ⊥
+at_cut marks are m here cut EndOne on is = omega arith
+at_cut marks are m here cut EndTwo on is = let within : m.length.mm ≤ 1000000000000 = length_within marks are m here in omega arith
+at_cut marks are m here cut (CutOne id) on is = omega arith
+at_cut marks are m here cut (CutTwo id) on is = omega arith
+at_cut marks are m here cut (Clamp id) on is =
+    let there : length_of marks id ≡ on.0.length.mm = length_of_mark marks are id on.0 on.1 on.2 in
+    let same : m ≡ on.0 = one_cut_there marks are m on.0 here on.1 cut (omega arith) in
+    true_or_false m.divides cut (ap (λ (n : Mark). n.divides) same ∙ on.3)
+
+pub never_at_cut : (marks : List Mark) → AreMarks marks → (m : Mark) → Contains marks m → m.divides ≡ true → (s : Spot) → IsOn marks s → (number marks s < cut_number m) ⊎ (cut_number m < number marks s)
+never_at_cut marks are m here cut s on = cases (cases_lt (number marks s) (cut_number m)) (cases_lt (cut_number m) (number marks s))
+  where
+    cases : (number marks s < cut_number m) ⊎ (cut_number m ≤ number marks s) → (cut_number m < number marks s) ⊎ (number marks s ≤ cut_number m) → (number marks s < cut_number m) ⊎ (cut_number m < number marks s)
+    cases (inl less) _ = inl less
+    cases _ (inl more) = inr more
+    cases (inr upto) (inr downto) = absurd (at_cut marks are m here cut s on (omega arith))
+
+-- ---- a mark stands at one index
+
+two_indices : (marks : List Mark) → AllPairs (λ (m n : Mark). ¬ (m.id ≡ n.id)) marks → (i j : ℕ) (d : Mark) → i < j → j < length marks → get_or marks i d ≡ get_or marks j d → ⊥
+two_indices marks different i j d less below same = different i j d less below (ap (λ (m : Mark). m.id) same)
+
+pub one_index : (marks : List Mark) → AreMarks marks → (i j : ℕ) (d : Mark) → i < length marks → j < length marks → get_or marks i d ≡ get_or marks j d → i ≡ j
+one_index marks are i j d here there same = cases (cases_lt i j) (cases_lt j i)
+  where
+    cases : (i < j) ⊎ (j ≤ i) → (j < i) ⊎ (i ≤ j) → i ≡ j
+    cases (inl less) _ = absurd (two_indices marks are.different i j d less there same)
+    cases _ (inl more) = absurd (two_indices marks are.different j i d more here (sym same))
+    cases (inr upto) (inr downto) = omega arith
