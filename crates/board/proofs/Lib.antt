@@ -1,0 +1,13 @@
+mod Prefixes
+mod Places
+mod Frames
+mod ReaderSteps
+mod WriterSteps
+mod ViewSteps
+mod Begins
+mod Swaps
+mod Looks
+mod Learning
+mod Opens
+mod Rounds
+mod Listing

@@ -1,0 +1,12 @@
+pub mod Lists
+pub mod Word
+pub mod Views
+pub mod Rule
+pub mod Steps
+pub mod Ends
+pub mod Looked
+pub mod Held
+pub mod Fronts
+pub mod Laid
+pub mod Opened
+pub mod Sent
