@@ -1,5 +1,6 @@
 pub mod MarkLemmas
 pub mod PhaseLemmas
+pub mod NotedLemmas
 pub mod RoomLemmas
 pub mod TermLemmas
 pub mod NumberingLemmas
@@ -9,3 +10,6 @@ pub mod LineLemmas
 pub mod RowLemmas
 pub mod PartLemmas
 pub mod TraceLemmas
+pub mod HubLemmas
+pub mod HubsOfLemmas
+pub mod OverLemmas

@@ -57,10 +57,10 @@ module _ (eq : Term → Term → Bool) (agrees : (t u : Term) → eq t u ≡ sam
 cons_cases : {X : Type 0} (x : X) (xs : List X) (y : X) → Contains (x ∷ xs) y → (x ≡ y) ⊎ Contains xs y
 cons_cases x xs y h = ⊎_elim (λ l. ⊎_elim (λ e. contains_nothing y e) inl (Contains-push_cases [] x y l)) inr (Contains-append_cases (x ∷ []) xs y h)
 
-cons_here : {X : Type 0} (x : X) (xs : List X) → Contains (x ∷ xs) x
+pub cons_here : {X : Type 0} (x : X) (xs : List X) → Contains (x ∷ xs) x
 cons_here x xs = Contains-get_or (x ∷ xs) 0 x (omega arith)
 
-cons_there : {X : Type 0} (x : X) (xs : List X) (y : X) → Contains xs y → Contains (x ∷ xs) y
+pub cons_there : {X : Type 0} (x : X) (xs : List X) (y : X) → Contains xs y → Contains (x ∷ xs) y
 cons_there x xs y h = Contains-append_right (x ∷ []) xs y h
 
 module _ (eq : Term → Term → Bool) (agrees : (t u : Term) → eq t u ≡ same_term t u) (t : Term) (phases : PhaseSet) where

@@ -7,12 +7,11 @@ use Rattle.cim_words.specs.declared.phases.PhaseSet.{PhaseSet}
 use Rattle.cim_words.specs.declared.phases.Phase.{Phase}
 use Rattle.cim_words.specs.PhaseNames.{and_then}
 use Rattle.cim_model.specs.Phases.{Transforms}
-use Rattle.graph_pages.specs.Graph.{GraphView, star_of, members_of, same_term}
+use Rattle.graph_pages.specs.Graph.{GraphView, star_of, same_term}
 use Rattle.graph_pages.specs.Walks.{Point, Line, HasSpoke, Passes, line_at, line_in, own_or_on, place_at, spoke_of}
 use Rattle.graph_pages.specs.declared.star.Pass.{Pass}
 use Rattle.graph_pages.specs.declared.star.Pass.TheVariants as pass
 use Rattle.graph_pages.specs.declared.star.Star.{Star}
-use Rattle.room_words.specs.declared.anchor.Anchor.{Anchor}
 use Rattle.std.proofs.lemmas.Option.{same_Some}
 use Rattle.graph_pages.specs.declared.star.Spoke.{Spoke}
 use Rattle.graph_pages.specs.declared.term.Term.{Term}
@@ -128,25 +127,9 @@ sections_more sections i section d t phases a b c within is has first then =
     (marks_as (AmongMembers section phases) (λ x. Contains section t × AmongMembers section phases x) b c (λ x h. (has, h)) (λ x h own. h.1) then)
 
 -- ---- at a place
-pub place_marks : (g : GraphView) (t : Term) (phases : PhaseSet) (place : Anchor) (members : List Term) (a b : SearchView) → place_at g t ≡ Some place → members_of g place ≡ Some members → MarksAll (AmongMembers members phases) a b → MarksAll (AtPlaceOf g t phases) a b
-place_marks g t phases place members a b at has =
-    marks_as (AmongMembers members phases) (AtPlaceOf g t phases) a b
-    (λ x h. (x.phase, h.1, (place, at, members, has, h.0, refl)))
-    (λ x (p, asked, (place', at', members', has', stands, same)) own.
-    let one : place' ≡ place = same_Some place' place (sym at' ∙ at) in
-    let these : members' ≡ members = same_Some members' members (sym has' ∙ ap (members_of g) one ∙ has) in
-    (subst (λ (ms : List Term). Contains ms x.term) these stands, subst (λ (q : Phase). IsTrue (has_phase phases q)) same asked))
-
 pub no_place : (g : GraphView) (t : Term) (phases : PhaseSet) (v : SearchView) → place_at g t ≡ None → MarksAll (AtPlaceOf g t phases) v v
 no_place g t phases v none =
     marks_nothing (AtPlaceOf g t phases) v (λ x (p, asked, (place, at, members, has, stands, same)) own. absurd (some_none place (sym at ∙ none)))
-
-pub no_members : (g : GraphView) (t : Term) (phases : PhaseSet) (place : Anchor) (v : SearchView) → place_at g t ≡ Some place → members_of g place ≡ None → MarksAll (AtPlaceOf g t phases) v v
-no_members g t phases place v at none =
-    marks_nothing (AtPlaceOf g t phases) v
-    (λ x (p, asked, (place', at', members, has, stands, same)) own.
-    let one : place' ≡ place = same_Some place' place (sym at' ∙ at) in
-    absurd (some_none members (sym has ∙ ap (members_of g) one ∙ none)))
 
 -- the spoke and the place of a terminal of a star
 pub spoke_is : (g : GraphView) (t : Term) (star : Star) (o : Option Spoke) → star_of g t.owner.number ≡ Some star → o ≡ find (λ (spoke : Spoke). same_term spoke.term t) star.spokes → spoke_of g t ≡ o

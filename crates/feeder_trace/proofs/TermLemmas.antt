@@ -18,7 +18,7 @@ both false b h = cc
 as_id : ℕ → Id
 as_id n = record { number = n }
 
-same_id : (a b : Id) → eqb a.number b.number ≡ true → a ≡ b
+pub same_id : (a b : Id) → eqb a.number b.number ≡ true → a ≡ b
 unfolding as_id
 same_id a b h = ap as_id (eqb-true a.number b.number h)
 

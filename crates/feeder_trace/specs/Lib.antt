@@ -1,4 +1,11 @@
+pub mod Hub
+pub mod Hubs
+pub mod HubsOf
+pub mod HubsView
+pub mod Over
 pub mod Lines
+pub mod Marks
+pub mod Noted
 pub mod Numbering
 pub mod Reserved
 pub mod Room

@@ -1,16 +1,12 @@
 -- What a search has marked, and what a step of it marks.
 use Rattle.std.specs.Prelude.{ℕ, ◌≡◌, ◌⊎◌, ◌+◌, ◌≤◌, ◌∷◌, ◌++◌, [], List, length, cond, sum_by, Some, slice_get, IsTrue, Contains}
 use Rattle.cim_words.specs.Phases.{has_phase}
-use Rattle.cim_words.specs.declared.phases.Phase.{Phase}
 use Rattle.cim_words.specs.declared.phases.PhaseSet.{PhaseSet}
 use Rattle.graph_pages.specs.Walks.{Point}
 use Rattle.graph_pages.specs.declared.term.Term.{Term}
 use Rattle.feeder_trace.specs.Numbering.{IsOwn}
+pub use Rattle.feeder_trace.specs.Marks.{IsSet}
 pub use Rattle.feeder_trace.specs.SearchView.{SearchView}
-
--- the set at a number has a phase
-abbrev pub IsSet : List PhaseSet → ℕ → Phase → Type 0
-IsSet reached i p = (set : PhaseSet) × (slice_get reached i ≡ Some set) × IsTrue (has_phase set p)
 
 -- the terminal has this number
 abbrev pub IsAt : SearchView → ℕ → Term → Type 0

@@ -4,7 +4,10 @@
 mod capacity;
 mod compare;
 mod gather;
+mod hub;
+mod hubs;
 mod lines;
+mod marks;
 mod merge;
 mod phases;
 mod search;

@@ -1,7 +1,7 @@
 //! What the graph says of a terminal: its place, its line and its phases.
 
-ghost use Rattle.std.specs.Prelude.{◌≡◌, Option, option_map, find};
-ghost use Rattle.graph_pages.specs.Graph.{same_term};
+ghost use Rattle.std.specs.Prelude.{◌≡◌, Option, Some, IfSome, option_map, find};
+ghost use Rattle.graph_pages.specs.Graph.{same_term, star_of};
 ghost use Rattle.graph_pages.specs.Walks.{line_in, line_of, line_phases, line_at, own_or_on, phases_at};
 ghost use Rattle.graph_pages.specs.declared.star.Spoke.{Spoke};
 ghost use Rattle.feeder_trace.specs.Lines.{shown_line};
@@ -10,9 +10,10 @@ use crate::compare::terms_are_compared;
 use cim_words::{Id, PhaseSet};
 use graph_pages::{Graph, Pass, Sections, Spoke, SpokePhases, Star, Term};
 
-/// The phases of a segment, and the terminals on it, section by section.
+/// A segment, its phases, and the terminals on it, section by section.
 #[derive(Clone, Copy)]
 pub(crate) struct Line<'a> {
+    pub(crate) segment: Id,
     pub(crate) phases: PhaseSet,
     pub(crate) sections: &'a Sections,
 }
@@ -30,12 +31,14 @@ pub(crate) fn spoke_in(star: &Star, term: Term) -> Option<Spoke>
     None
 }
 
-/// The line that a star passes current along.
-fn line_passed(star: &Star) -> Option<Line<'_>>
-    ensures { option_map shown_line result ≡ line_in star.now.pass }
+/// The line that a star passes current along, which is that of its segment.
+fn line_passed(star: &Star, segment: Id) -> Option<Line<'_>>
+    ensures line { option_map shown_line result ≡ line_in star.now.pass }
+    ensures segment { IfSome result (λ line. line.segment ≡ segment) }
 {
     match &star.pass {
         Pass::Line { phases, sections } => Some(Line {
+            segment,
             phases: *phases,
             sections,
         }),
@@ -45,16 +48,19 @@ fn line_passed(star: &Star) -> Option<Line<'_>>
 
 /// The line of a segment.
 pub(crate) fn line_of_segment(graph: &Graph, segment: Id) -> Option<Line<'_>>
-    ensures { option_map shown_line result ≡ line_of graph.now segment.number }
+    ensures line { option_map shown_line result ≡ line_of graph.now segment.number }
+    ensures segment { IfSome result (λ line. line.segment ≡ segment) }
 {
-    line_passed(graph.star(segment)?)
+    line_passed(graph.star(segment)?, segment)
 }
 
-/// The line on which the terminals of a star stand.
-pub(crate) fn line_under<'a>(graph: &'a Graph, star: &'a Star) -> Option<Line<'a>>
-    ensures { option_map shown_line result ≡ own_or_on graph.now star.now (line_in star.now.pass) }
+/// The line on which the terminals of an owner stand, whose star is given.
+pub(crate) fn line_under<'a>(graph: &'a Graph, star: &'a Star, owner: Id) -> Option<Line<'a>>
+    requires { star_of graph.now owner.number ≡ Some star.now }
+    ensures line { option_map shown_line result ≡ own_or_on graph.now star.now (line_in star.now.pass) }
+    ensures segment { IfSome result (λ line. line_of graph.now line.segment.number ≡ Some (shown_line line)) }
 {
-    if let Some(line) = line_passed(star) {
+    if let Some(line) = line_passed(star, owner) {
         return Some(line);
     }
     line_of_segment(graph, star.on?)
@@ -72,7 +78,7 @@ pub(crate) fn phases_of_term(graph: &Graph, term: Term) -> PhaseSet
     };
     match spoke.phases {
         SpokePhases::Own(phases) => phases,
-        SpokePhases::OfSegment => phases_of_line(line_under(graph, star)),
+        SpokePhases::OfSegment => phases_of_line(line_under(graph, star, term.owner)),
     }
 }
 

@@ -1,15 +1,13 @@
 //! The marks of a search, and what is still to be looked at.
 
-ghost use Rattle.std.specs.Prelude.{◌≡◌, ◌*◌, ℕ, ◌+◌, ◌≤◌, ◌<◌, ◌∷◌, ◌++◌, [], true, false, vec_len, length, IfOk, IfSome, IfNone, IsTrue, Contains, Some, slice_get, replicate};
-ghost use Rattle.std.specs.Vec.{vec_capacity};
-ghost use Rattle.cim_model.specs.Phases.{no_phases};
-ghost use Rattle.cim_words.specs.Phases.{has_no_phase};
+ghost use Rattle.std.specs.Prelude.{◌≡◌, ℕ, ◌≤◌, [], length, IfOk, IfSome, IfNone, Contains, Some, slice_get};
 ghost use Rattle.cim_words.specs.declared.phases.Phase.{Phase};
 ghost use Rattle.cim_words.specs.declared.phases.PhaseSet.{PhaseSet};
 ghost use Rattle.graph_pages.specs.declared.term.Term.{Term};
-ghost use Rattle.feeder_trace.specs.Search.{IsAt, IsPopped, IsSet, MarksAll, SearchView, AtTerm};
+ghost use Rattle.feeder_trace.specs.Search.{IsAt, IsPopped, IsSet, MarksAll, AtTerm};
 
 use crate::capacity::{put_within, times};
+use crate::marks::Marks;
 use crate::phases::without;
 use crate::terminals::Terminals;
 use cim_words::{NoMemory, PhaseSet};
@@ -20,14 +18,12 @@ use std::marker::Model;
 /// How many phases there are.
 const PHASES: usize = 6;
 
-/// The phases in which each terminal was reached, the terminals with the phases from which nobody has gone on, and the numbers of
-/// all terminals that were reached.
+/// The terminals, marked with the phases in which each was reached, and those with the phases from which nobody has gone on.
 #[derive(Drop)]
 pub(crate) struct Search {
     terminals: Terminals,
-    reached: Vec<PhaseSet>,
+    marks: Marks,
     pending: Vec<(Term, PhaseSet)>,
-    visited: Vec<usize>,
 }
 
 impl Model for Search {
@@ -52,9 +48,8 @@ impl Search {
         let points = times(count, PHASES)?;
         Ok(Search {
             terminals,
-            reached: empty_sets(alloc, count)?,
+            marks: Marks::new(alloc, count)?,
             pending: Vec::with_capacity(alloc, points)?,
-            visited: Vec::with_capacity(alloc, count)?,
         })
     }
 
@@ -71,8 +66,7 @@ impl Search {
         ensures pending { self.new.pending ≡ [] }
         ensures reached { (i : ℕ) (p : Phase) → IsSet self.new.reached i p → ⊥ }
     {
-        unmark(&mut self.reached, &self.visited);
-        self.visited.clear();
+        self.marks.clear();
         self.pending.clear();
     }
 
@@ -91,13 +85,12 @@ impl Search {
         let Some((index, own)) = self.terminals.find(term) else {
             return;
         };
-        let before = self.reached[index];
+        let before = self.marks.at(index);
         let new = without(phases.meet(own), before);
         if new.is_empty() {
             return;
         }
-        note_first(&mut self.visited, index, before);
-        self.reached[index] = before.join(new);
+        self.marks.add(index, before, new);
         put_within(&mut self.pending, (term, new));
     }
 
@@ -107,7 +100,7 @@ impl Search {
         ensures every { (t : Term) (set : PhaseSet) → IsAt self.now index t → slice_get self.now.reached index ≡ Some set → result ≡ Some (t, set) }
     {
         let term = self.terminals.term(index)?;
-        Some((term, self.reached[index]))
+        Some((term, self.marks.at(index)))
     }
 
     /// The numbers of the terminals that were reached.
@@ -116,40 +109,6 @@ impl Search {
         ensures every { (i : ℕ) (p : Phase) → IsSet self.now.reached i p → Contains self.now.visited i }
         ensures bound { length self.now.visited ≤ length self.now.terminals }
     {
-        &self.visited
-    }
-}
-
-/// So many sets without phases.
-fn empty_sets(alloc: Global, count: usize) -> Result<Vec<PhaseSet>, NoMemory>
-    ensures { IfOk result (λ sets. sets.items ≡ replicate count no_phases) }
-{
-    let mut sets = Vec::new(alloc);
-    sets.resize(count, PhaseSet::EMPTY)?;
-    Ok(sets)
-}
-
-/// Notes the number of a terminal that was not reached before.
-fn note_first(visited: &mut Vec<usize>, index: usize, before: PhaseSet)
-    requires { has_no_phase before ≡ true → vec_len visited.old < vec_capacity visited.old }
-    ensures first { has_no_phase before ≡ true → visited.new.items ≡ visited.old.items ++ index ∷ [] }
-    ensures again { has_no_phase before ≡ false → visited.new.items ≡ visited.old.items }
-    ensures capacity { vec_capacity visited.old ≤ vec_capacity visited.new }
-{
-    if before.is_empty() {
-        put_within(visited, index);
-    }
-}
-
-/// Takes the marks at some numbers away.
-fn unmark(reached: &mut Vec<PhaseSet>, visited: &[usize])
-    ensures length { length reached.new.items ≡ length reached.old.items }
-    ensures unmarked { (i : ℕ) (p : Phase) → IsSet reached.new.items i p → IsSet reached.old.items i p × (Contains visited.now i → ⊥) }
-{
-    for &index in visited {
-        if index >= reached.len() {
-            continue;
-        }
-        reached[index] = PhaseSet::EMPTY;
+        self.marks.visited()
     }
 }

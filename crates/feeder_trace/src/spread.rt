@@ -1,35 +1,53 @@
 //! Where current goes on from a terminal.
 
-ghost use Rattle.std.specs.Prelude.{◌≡◌, ◌↔◌, IsTrue, Some, Option, option_map};
+ghost use Rattle.std.specs.Prelude.{◌≡◌, ◌↔◌, IsTrue, Some};
 ghost use Rattle.graph_pages.specs.Graph.{star_of};
-ghost use Rattle.graph_pages.specs.Walks.{line_at, own_or_on, place_at};
-ghost use Rattle.feeder_trace.specs.Lines.{shown_line};
+ghost use Rattle.feeder_trace.specs.Over.{IsOver};
 ghost use Rattle.feeder_trace.specs.Search.{MarksAll};
-ghost use Rattle.feeder_trace.specs.Spread.{AlongLineOf, AmongMembers, AmongSpokes, AtPlaceOf, InSectionOf, InSections, JoinedFrom, PassedFrom};
+ghost use Rattle.feeder_trace.specs.Spread.{AlongLineOf, AmongMembers, AmongSpokes, AtPlaceOf, JoinedFrom, PassedFrom};
 
 use crate::compare::terms_are_compared;
-use crate::lines::{Line, line_under, spoke_in};
+use crate::hub::Hub;
+use crate::hubs::Hubs;
+use crate::lines::{line_under, spoke_in};
 use crate::phases::transformed;
 use crate::search::Search;
 use cim_words::PhaseSet;
-use graph_pages::{Graph, Pass, Section, Spoke, Star, Term};
+use graph_pages::{Graph, Pass, Spoke, Star, Term};
 
 /// Marks all to which current goes on from a terminal in some phases.
-pub(crate) fn spread(search: &mut Search, graph: &Graph, term: Term, phases: PhaseSet)
-    ensures { MarksAll (JoinedFrom graph.now term phases) search.old search.new }
+pub(crate) fn spread(
+    search: &mut Search,
+    hubs: &mut Hubs,
+    graph: &Graph,
+    term: Term,
+    phases: PhaseSet,
+)
+    requires { IsOver graph.now hubs.old search.old }
+    ensures marked { MarksAll (JoinedFrom graph.now term phases) search.old search.new }
+    ensures over { IsOver graph.now hubs.new search.new }
 {
     let Some(star) = graph.star(term.owner) else {
         return;
     };
-    at_place(search, graph, star, term, phases);
-    along_line(search, graph, star, term, phases);
+    at_place(search, hubs, graph, star, term, phases);
+    along_line(search, hubs, graph, star, term, phases);
     through_star(search, star, term, phases);
 }
 
 /// Marks the terminals at the place where a terminal of a star stands.
-fn at_place(search: &mut Search, graph: &Graph, star: &Star, term: Term, phases: PhaseSet)
-    requires { star_of graph.now term.owner.number ≡ Some star.now }
-    ensures { MarksAll (AtPlaceOf graph.now term phases) search.old search.new }
+fn at_place(
+    search: &mut Search,
+    hubs: &mut Hubs,
+    graph: &Graph,
+    star: &Star,
+    term: Term,
+    phases: PhaseSet,
+)
+    requires star { star_of graph.now term.owner.number ≡ Some star.now }
+    requires over { IsOver graph.now hubs.old search.old }
+    ensures marked { MarksAll (AtPlaceOf graph.now term phases) search.old search.new }
+    ensures over { IsOver graph.now hubs.new search.new }
 {
     let Some(spoke) = spoke_in(star, term) else {
         return;
@@ -37,34 +55,44 @@ fn at_place(search: &mut Search, graph: &Graph, star: &Star, term: Term, phases:
     let Some(place) = spoke.at else {
         return;
     };
+    let phases = hubs.go_over(Hub::Place(place), phases);
+    if phases.is_empty() {
+        return;
+    }
     let Some(members) = graph.members(place) else {
         return;
     };
     reach_members(search, members.as_slice(), phases);
 }
 
-/// Marks the terminals in the sections of the line on which a terminal of a star stands.
-fn along_line(search: &mut Search, graph: &Graph, star: &Star, term: Term, phases: PhaseSet)
-    requires { star_of graph.now term.owner.number ≡ Some star.now }
-    ensures { MarksAll (AlongLineOf graph.now term phases) search.old search.new }
-{
-    let Some(line) = line_under(graph, star) else {
-        return;
-    };
-    in_section(search, line, term, phases);
-}
-
-/// Marks the terminals in the sections of a line in which a terminal is, in the line's phases.
-fn in_section(search: &mut Search, line: Line<'_>, term: Term, phases: PhaseSet)
-    ensures { MarksAll (InSectionOf (shown_line line.entry) term phases) search.old search.new }
+/// Marks the terminals in the sections in which a terminal of a star stands on a line, in the line's phases.
+fn along_line(
+    search: &mut Search,
+    hubs: &mut Hubs,
+    graph: &Graph,
+    star: &Star,
+    term: Term,
+    phases: PhaseSet,
+)
+    requires star { star_of graph.now term.owner.number ≡ Some star.now }
+    requires over { IsOver graph.now hubs.old search.old }
+    ensures marked { MarksAll (AlongLineOf graph.now term phases) search.old search.new }
+    ensures over { IsOver graph.now hubs.new search.new }
 {
     terms_are_compared();
+    let Some(line) = line_under(graph, star, term.owner) else {
+        return;
+    };
     let phases = phases.meet(line.phases);
-    for section in line.sections.as_slice() {
+    for (index, section) in line.sections.as_slice().iter().enumerate() {
         if !section.as_slice().contains(&term) {
             continue;
         }
-        reach_members(search, section.as_slice(), phases);
+        let left = hubs.go_over(Hub::Section(line.segment, index), phases);
+        if left.is_empty() {
+            continue;
+        }
+        reach_members(search, section.as_slice(), left);
     }
 }
 

@@ -47,7 +47,7 @@ fn star(id: u128, spokes: Vec<Spoke>, pass: Pass) -> Star
     }
 }
 
-/// A source, and an open switch at its node.
+/// A source, and at its node an open switch and a line with one section.
 fn network<L: Ledger>(alloc: Global, blank: Blank) -> Result<Graph, NoMemory>
     requires name { blank.name ≡ L.name }
     requires parts { blank.parts ≡ L.parts }
@@ -55,10 +55,15 @@ fn network<L: Ledger>(alloc: Global, blank: Blank) -> Result<Graph, NoMemory>
 {
     let source = vec![in alloc; at(real(1, 11), 100, ABC)]?;
     let sides = vec![in alloc; at(real(2, 21), 100, A), at(real(2, 22), 101, ABC)]?;
+    let ends = vec![in alloc; at(real(3, 31), 100, ABC), at(real(3, 32), 102, ABC)]?;
+    let section = Listed::of(vec![in alloc; real(3, 31), real(3, 32)]?);
+    let sections = Listed::of(vec![in alloc; section]?);
+    let phases = ABC;
     let first = star(1, source, Pass::Same);
     let second = star(2, sides, Pass::Switch { is_open: true });
-    let stars = vec![in alloc; first, second]?;
-    let members = Listed::of(vec![in alloc; real(1, 11), real(2, 21)]?);
+    let third = star(3, ends, Pass::Line { phases, sections });
+    let stars = vec![in alloc; first, second, third]?;
+    let members = Listed::of(vec![in alloc; real(1, 11), real(2, 21), real(3, 31)]?);
     let places = vec![in alloc; (Anchor::Node(Id::of(100)), members)]?;
     Graph::build(alloc, stars, places, &mut Steps::<L>::of(blank))
 }
@@ -91,8 +96,11 @@ fn expect_rows(
 fn traces_a_network(rt: HostRuntime) -> Result<(), Fail> {
     let graph = network::<Brand>(rt.alloc(), Blank::new(1))?;
     let mut tracer = Tracer::reserve(rt.alloc(), &graph)?;
-    expect_rows(&rt, &mut tracer, &graph, 1, ABC, &[(1, ABC), (2, A)]);
+    let all = [(1, ABC), (2, A), (3, ABC)];
+    expect_rows(&rt, &mut tracer, &graph, 1, ABC, &all);
+    expect_rows(&rt, &mut tracer, &graph, 1, A, &[(1, A), (2, A), (3, A)]);
+    expect_rows(&rt, &mut tracer, &graph, 3, ABC, &all);
     expect_rows(&rt, &mut tracer, &graph, 2, NONE, &[]);
-    assert!(rt; tracer.trace(&graph, Id::of(3), ABC).is_err());
+    assert!(rt; tracer.trace(&graph, Id::of(4), ABC).is_err());
     Ok(())
 }

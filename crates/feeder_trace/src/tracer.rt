@@ -7,6 +7,7 @@ ghost use Rattle.graph_pages.specs.Walks.{IsReached};
 
 use crate::capacity::times;
 use crate::gather::gather;
+use crate::hubs::Hubs;
 use crate::merge::merge;
 use crate::search::Search;
 use crate::terminals::Terminals;
@@ -27,6 +28,7 @@ pub struct NoSuch;
 pub struct Tracer {
     graph: Graph,
     search: Search,
+    hubs: Hubs,
     parts: Vec<(Id, PhaseSet)>,
     rows: Vec<(Id, PhaseSet)>,
 }
@@ -54,6 +56,7 @@ impl Tracer {
         Ok(Tracer {
             graph: graph.share()?,
             search,
+            hubs: Hubs::of(alloc, graph)?,
             parts: Vec::with_capacity(alloc, most)?,
             rows: Vec::with_capacity(alloc, most)?,
         })
@@ -68,7 +71,7 @@ impl Tracer {
         ensures kept { OnErr result (self.new ≡ self.old) }
     {
         let star = graph.star(start).ok_or(NoSuch)?;
-        walk(&mut self.search, graph, star, phases);
+        walk(&mut self.search, &mut self.hubs, graph, star, phases);
         gather(graph, &self.search, &mut self.parts);
         merge(&mut self.parts, &mut self.rows);
         Ok(())

@@ -7,21 +7,29 @@ ghost use Rattle.graph_pages.specs.Walks.{Point, Walks};
 ghost use Rattle.feeder_trace.specs.Numbering.{IsNumbered};
 ghost use Rattle.feeder_trace.specs.Search.{IsMarked, IsSet};
 
+use crate::hubs::Hubs;
 use crate::search::Search;
 use crate::spread::{reach_spokes, spread};
 use cim_words::PhaseSet;
 use graph_pages::{Graph, Star};
 
 /// Marks all to which a walk leads from a star in some phases, and nothing else.
-pub(crate) fn walk(search: &mut Search, graph: &Graph, star: &Star, phases: PhaseSet)
+pub(crate) fn walk(
+    search: &mut Search,
+    hubs: &mut Hubs,
+    graph: &Graph,
+    star: &Star,
+    phases: PhaseSet,
+)
     requires terminals { IsNumbered graph.now search.old.terminals }
     requires star { star_of graph.now star.now.id.number ≡ Some star.now }
     ensures terminals { search.new.terminals ≡ search.old.terminals }
     ensures walked { (a : Point) → IsMarked search.new a ↔ Walks graph.now star.now.id.number phases a }
 {
     search.clear();
+    hubs.clear();
     reach_spokes(search, star.spokes.as_slice(), None, phases);
     while let Some((term, phases)) = search.next() {
-        spread(search, graph, term, phases);
+        spread(search, hubs, graph, term, phases);
     }
 }

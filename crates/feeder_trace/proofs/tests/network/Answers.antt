@@ -10,9 +10,9 @@ use Rattle.feeder_trace.proofs.tests.network.Goals as goal
 pub build-requires-clause-stars : goal.build-requires-clause-stars
 unfolding IsDistinct
 build-requires-clause-stars g c =
-    let numbers : map (λ (star : Star). star.id.number) c.in_ok-stars.stars.items ≡ 1 ∷ 2 ∷ [] =
-    ap (map (λ (star : Star). star.id.number)) c.in_ok-stars.ensures.items ∙ ap₂ (λ (n m : ℕ). n ∷ m ∷ []) c.star-first.ensures c.star-second.ensures in
-    subst (IsDistinct nat_eq) (sym numbers) ((refl, tt), (tt, tt))
+    let numbers : map (λ (star : Star). star.id.number) c.in_ok-stars.stars.items ≡ 1 ∷ 2 ∷ 3 ∷ [] =
+    ap (map (λ (star : Star). star.id.number)) c.in_ok-stars.ensures.items ∙ ap₂ (λ (n m : ℕ). n ∷ m ∷ c.star-third.result.id.number ∷ []) c.star-first.ensures c.star-second.ensures ∙ ap (λ (n : ℕ). 1 ∷ 2 ∷ n ∷ []) c.star-third.ensures in
+    subst (IsDistinct nat_eq) (sym numbers) ((refl, (refl, tt)), ((refl, tt), (tt, tt)))
 
 pub build-requires-clause-places : goal.build-requires-clause-places
 unfolding IsDistinct

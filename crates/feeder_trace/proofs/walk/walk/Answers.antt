@@ -4,6 +4,7 @@ use Rattle.feeder_trace.specs.Numbering.{IsNumbered}
 use Rattle.feeder_trace.specs.Search.{MarksAll}
 use Rattle.feeder_trace.specs.Spread.{AmongSpokes, JoinedFrom}
 use Rattle.feeder_trace.specs.SearchView.{SearchView}
+use Rattle.feeder_trace.proofs.OverLemmas.{over_begins, over_popped}
 use Rattle.feeder_trace.proofs.WalkLemmas.{IsWalk, walk_begins, walk_goes_on, walk_ends, walk_falls}
 use Rattle.feeder_trace.proofs.walk.walk.Goals as goal
 
@@ -13,18 +14,23 @@ loop-term-init c = (
   walk_begins c.args.graph.now c.args.star.now.id.number c.args.star.now c.args.phases c.clear.new.self c.reach_spokes.new.search
       (subst (IsNumbered c.args.graph.now) (sym c.clear.ensures.terminals) c.requires.terminals) c.requires.star c.clear.ensures.reached c.clear.ensures.pending
       (subst (λ (spokes : List Spoke). MarksAll (AmongSpokes spokes None c.args.phases) c.clear.new.self c.reach_spokes.new.search) c.as_slice.ensures c.reach_spokes.ensures),
+  over_begins c.args.graph.now c.clear-2.new.self c.reach_spokes.new.search c.clear-2.ensures.none,
 )
+
+pub spread-requires : goal.spread-requires
+spread-requires c = over_popped c.args.graph.now c.loop-term.hubs (c.in-Some.term, c.in-Some.phases) c.loop-term.search c.next.new.self c.loop-term.invariant.2 c.in-Some.ensures.some
 
 pub loop-term-preserved : goal.loop-term-preserved
 loop-term-preserved c = (
-  c.spread.ensures.same_terminals ∙ c.in-Some.ensures.some.same_terminals ∙ c.loop-term.invariant.0,
+  c.spread.ensures.marked.same_terminals ∙ c.in-Some.ensures.some.same_terminals ∙ c.loop-term.invariant.0,
   walk_goes_on c.args.graph.now c.args.star.now.id.number c.args.phases (c.in-Some.term, c.in-Some.phases) c.loop-term.search c.next.new.self c.spread.new.search
-      (subst (IsNumbered c.args.graph.now) (sym c.loop-term.invariant.0) c.requires.terminals) c.loop-term.invariant.1 c.in-Some.ensures.some c.spread.ensures,
+      (subst (IsNumbered c.args.graph.now) (sym c.loop-term.invariant.0) c.requires.terminals) c.loop-term.invariant.1 c.in-Some.ensures.some c.spread.ensures.marked,
+  c.spread.ensures.over,
 )
 
 pub loop-term-smaller : goal.loop-term-smaller
 loop-term-smaller c =
-    walk_falls (c.in-Some.term, c.in-Some.phases) (JoinedFrom c.args.graph.now c.in-Some.term c.in-Some.phases) c.loop-term.search c.next.new.self c.spread.new.search c.in-Some.ensures.some c.spread.ensures
+    walk_falls (c.in-Some.term, c.in-Some.phases) (JoinedFrom c.args.graph.now c.in-Some.term c.in-Some.phases) c.loop-term.search c.next.new.self c.spread.new.search c.in-Some.ensures.some c.spread.ensures.marked
 
 pub returns-clause-walked : goal.returns-clause-walked
 returns-clause-walked c a =

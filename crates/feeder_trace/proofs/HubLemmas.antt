@@ -1,0 +1,106 @@
+-- Places and sections by number.
+use Rattle.std.proofs.Common.{◌≡◌, ◌||◌, ◌&&◌, not, ◌⊎◌, ℕ, Bool, true, false, List, [], ◌∷◌, ◌<◌, length, position, Some, None, cond, nat_lt, ◌+◌, slice_get, get_or, IsTrue, eqb, eqb-true, refl, sym, ap, ap₂, ◌∙◌, subst, inl, inr, ⊎_elim, true≢false}
+use Rattle.std.specs.List.{position_or_len}
+use Rattle.std.proofs.lemmas.Bool.{cases_eq}
+use Rattle.std.proofs.lemmas.List.Quantifiers.{position-Some}
+use Rattle.std.proofs.lemmas.Option.{same_Some, slice_get_within}
+use Rattle.cim_words.specs.Phases.{has_phase}
+use Rattle.cim_words.specs.declared.phases.Phase.{Phase}
+use Rattle.cim_words.specs.declared.phases.PhaseSet.{PhaseSet}
+use Rattle.graph_pages.specs.Graph.{same_anchor}
+use Rattle.room_words.specs.declared.anchor.Anchor.{Anchor}
+use Rattle.room_words.specs.declared.anchor.Anchor.TheVariants.{Node, Side}
+use Rattle.feeder_trace.specs.Hub.{same_hub}
+use Rattle.feeder_trace.specs.Hubs.{HubsView, GoesOver, HasNumber, IsGone}
+use Rattle.feeder_trace.specs.Marks.{Joins}
+use Rattle.feeder_trace.specs.declared.hub.Hub.{Hub}
+use Rattle.feeder_trace.specs.declared.hub.Hub.TheVariants.{Place, Section}
+use Rattle.feeder_trace.proofs.MarkLemmas.{slice_get-set_same, slice_get-set_other}
+use Rattle.feeder_trace.proofs.PhaseLemmas.{or_cases, or_left, or_right}
+use Rattle.feeder_trace.proofs.SpreadLemmas.{and_both}
+use Rattle.feeder_trace.proofs.TermLemmas.{same_id}
+
+anchor_exact : (a b : Anchor) → same_anchor a b ≡ true → a ≡ b
+anchor_exact (Node n) (Node m) h = ap Node (same_id n m h)
+anchor_exact (Node n) (Side item side) h = cc
+anchor_exact (Side item side) (Node n) h = cc
+anchor_exact (Side item side) (Side other part) h =
+    let parts = and_both (eqb item.number other.number) (eqb side part) h in
+    ap₂ Side (same_id item other parts.0) (eqb-true side part parts.1)
+
+pub hub_exact : (h k : Hub) → same_hub h k ≡ true → h ≡ k
+hub_exact (Place a) (Place b) e = ap Place (anchor_exact a b e)
+hub_exact (Place a) (Section segment n) e = cc
+hub_exact (Section segment n) (Place a) e = cc
+hub_exact (Section segment n) (Section other m) e =
+    let parts = and_both (eqb segment.number other.number) (eqb n m) e in
+    ap₂ Section (same_id segment other parts.0) (eqb-true n m parts.1)
+
+first_as : {X : Type 0} (f h : X → Bool) → ((x : X) → f x ≡ h x) → (xs : List X) → position_or_len f xs ≡ position_or_len h xs
+first_as f h agree [] = refl
+first_as f h agree (x ∷ xs) = ap₂ (λ (b : Bool) (n : ℕ). cond (not b) (1 + n) 0) (agree x) (first_as f h agree xs)
+
+-- tests that agree find the same
+pub position_as : {X : Type 0} (f h : X → Bool) → ((x : X) → f x ≡ h x) → (xs : List X) → position f xs ≡ position h xs
+position_as f h agree xs = ap (λ (n : ℕ). cond (nat_lt n (length xs)) (Some n) None) (first_as f h agree xs)
+
+-- two that have one number are one
+one_number : (v : HubsView) (h k : Hub) (i : ℕ) → HasNumber v h i → HasNumber v k i → h ≡ k
+one_number v h k i at_h at_k =
+    hub_exact h (get_or v.hubs i h) (position-Some (same_hub h) v.hubs i h at_h).1
+    ∙ sym (hub_exact k (get_or v.hubs i h) (position-Some (same_hub k) v.hubs i h at_k).1)
+
+-- nobody goes over again in a phase
+left_is : (asked before left : Bool) → left ≡ (asked && not before) → left ≡ true → (asked ≡ true) × (before ≡ false)
+left_is true true left e h = cc
+left_is true false left e h = (refl, refl)
+left_is false before left e h = cc
+
+left_or : (asked before left : Bool) → left ≡ (asked && not before) → asked ≡ true → (left ≡ true) ⊎ (before ≡ true)
+left_or true true left e h = inr refl
+left_or true false left e h = inl e
+left_or false before left e h = cc
+
+module _ (hub : Hub) (phases left before : PhaseSet) (v : HubsView) (i : ℕ) (at : HasNumber v hub i) (read : slice_get v.gone i ≡ Some before) (leaves : (p : Phase) → has_phase left p ≡ (has_phase phases p && not (has_phase before p))) where
+  was : (p : Phase) → IsGone v hub p → has_phase before p ≡ true
+  was p (j, at_j, (held, read_j, holds)) =
+      let one : j ≡ i = same_Some j i (sym at_j ∙ at) in
+      let same : held ≡ before = same_Some held before (sym read_j ∙ ap (slice_get v.gone) one ∙ read) in
+      subst (λ (q : PhaseSet). has_phase q p ≡ true) same holds
+
+  again : (p : Phase) → IsTrue (has_phase left p) → IsGone v hub p → ⊥
+  again p h gone = true≢false (sym (was p gone) ∙ (left_is (has_phase phases p) (has_phase before p) (has_phase left p) (leaves p) h).1)
+
+  others : (p : Phase) → IsTrue (has_phase phases p) → IsTrue (has_phase left p) ⊎ IsGone v hub p
+  others p h = ⊎_elim inl (λ b. inr (i, at, (before, read, b))) (left_or (has_phase phases p) (has_phase before p) (has_phase left p) (leaves p) h)
+
+  -- something is left, and noted
+  pub goes_over : (gone : List PhaseSet) → Joins i before left v.gone gone → GoesOver hub phases left v (record { hubs = v.hubs; gone = gone })
+  goes_over gone joins =
+      let within : i < length v.gone = slice_get_within v.gone i before read in
+      let there : slice_get gone i ≡ Some joins.joined = ap (λ (sets : List PhaseSet). slice_get sets i) joins.is ∙ slice_get-set_same v.gone i joins.joined within in
+      let elsewhere : (j : ℕ) → (j ≡ i → ⊥) → slice_get gone j ≡ slice_get v.gone j = λ j apart. ap (λ (sets : List PhaseSet). slice_get sets j) joins.is ∙ slice_get-set_other v.gone i j joins.joined apart in
+      record {
+        same_hubs = refl;
+        asked = λ p h. (left_is (has_phase phases p) (has_phase before p) (has_phase left p) (leaves p) h).0;
+        fresh = again;
+        rest = others;
+        noted = λ j p at_j h. (i, at, (joins.joined, there, joins.joins p ∙ or_right (has_phase before p) (has_phase left p) h));
+        kept = λ other p (j, at_j, (held, read_j, holds)). ⊎_elim
+            (λ same.
+            let is : held ≡ before = same_Some held before (sym read_j ∙ ap (slice_get v.gone) same ∙ read) in
+            (j, at_j, (joins.joined, ap (slice_get gone) same ∙ there, joins.joins p ∙ or_left (has_phase before p) (has_phase left p) (subst (λ (q : PhaseSet). has_phase q p ≡ true) is holds))))
+            (λ apart. (j, at_j, (held, elsewhere j apart ∙ read_j, holds)))
+            (cases_eq j i);
+        only = λ other p (j, at_j, (held, read_j, holds)). ⊎_elim
+            (λ same.
+            let is : held ≡ joins.joined = same_Some held joins.joined (sym read_j ∙ ap (slice_get gone) same ∙ there) in
+            let both : (has_phase before p || has_phase left p) ≡ true = sym (joins.joins p) ∙ subst (λ (q : PhaseSet). has_phase q p ≡ true) is holds in
+            let at_i : HasNumber v other i = subst (λ n. HasNumber v other n) same at_j in
+            ⊎_elim
+            (λ b. inl (i, at_i, (before, read, b)))
+            (λ l. inr (one_number v other hub i at_i at, l))
+            (or_cases (has_phase before p) (has_phase left p) both))
+            (λ apart. inl (j, at_j, (held, sym (elsewhere j apart) ∙ read_j, holds)))
+            (cases_eq j i);
+      }

@@ -1,0 +1,120 @@
+-- Going over places and sections once a phase.
+use Rattle.std.proofs.Common.{◌≡◌, ◌⊎◌, ℕ, false, List, Some, None, slice_get, get_or, take, length, ◌<◌, ◌+◌, IsTrue, Contains, refl, sym, ap, ◌∙◌, subst, inl, inr, ⊎_elim, true≢false}
+use Rattle.std.proofs.lemmas.Option.{same_Some, slice_get-get_or}
+use Rattle.cim_words.specs.Phases.{has_phase}
+use Rattle.cim_words.specs.declared.identifier.Id.{Id}
+use Rattle.cim_words.specs.declared.phases.Phase.{Phase}
+use Rattle.cim_words.specs.declared.phases.PhaseSet.{PhaseSet}
+use Rattle.graph_pages.specs.Graph.{GraphView, members_of}
+use Rattle.graph_pages.specs.Walks.{Line, Point, line_of, place_at}
+use Rattle.graph_pages.specs.declared.term.Term.{Term}
+use Rattle.room_words.specs.declared.anchor.Anchor.{Anchor}
+use Rattle.feeder_trace.specs.Hubs.{HubsView, GoesOver, IsGone}
+use Rattle.feeder_trace.specs.Numbering.{IsOwn}
+use Rattle.feeder_trace.specs.Over.{AtHub, IsOver, StandsIn}
+use Rattle.feeder_trace.specs.Search.{SearchView, IsMarked, IsPopped, IsSet, MarksAll}
+use Rattle.feeder_trace.specs.Spread.{AmongMembers, AtPlaceOf, InSections}
+use Rattle.feeder_trace.specs.declared.hub.Hub.{Hub}
+use Rattle.feeder_trace.specs.declared.hub.Hub.TheVariants.{Place, Section}
+use Rattle.feeder_trace.proofs.MarkLemmas.{marks_nothing, marks_as}
+use Rattle.feeder_trace.proofs.SpreadLemmas.{sections_more}
+
+-- what may be marked beyond a step is marked already
+marks_rest : (may may' : Point → Type 0) (a b : SearchView) → ((x : Point) → may x → may' x) → ((x : Point) → may' x → IsOwn a.terminals x → may x ⊎ IsMarked a x) → MarksAll may a b → MarksAll may' a b
+marks_rest may may' a b to from m = record {
+  same_terminals = m.same_terminals;
+  marked = λ x h own. ⊎_elim (λ l. m.marked x l own) (λ old. m.kept x old) (from x h own);
+  kept = m.kept;
+  only = λ x h. ⊎_elim inl (λ new. inr (to x new.0, new.1, new.2)) (m.only x h);
+  waits = m.waits;
+  waits_only = m.waits_only;
+  work = m.work;
+}
+
+-- nothing was gone over, and more is marked
+pub over_begins : (g : GraphView) (hubs : HubsView) (v : SearchView) → ((hub : Hub) (p : Phase) → IsGone hubs hub p → ⊥) → IsOver g hubs v
+over_begins g hubs v none hub a gone stands own = absurd (none hub a.phase gone)
+
+pub over_kept : (g : GraphView) (hubs : HubsView) (may : Point → Type 0) (a b : SearchView) → IsOver g hubs a → MarksAll may a b → IsOver g hubs b
+over_kept g hubs may a b over m hub x gone stands own = m.kept x (over hub x gone stands (subst (λ ts. IsOwn ts x) m.same_terminals own))
+
+pub over_popped : (g : GraphView) (hubs : HubsView) (next : Term × PhaseSet) (a b : SearchView) → IsOver g hubs a → IsPopped next a b → IsOver g hubs b
+over_popped g hubs next a b over popped hub x gone stands own =
+    let (i, at, set) = over hub x gone stands (subst (λ ts. IsOwn ts x) popped.same_terminals own) in (
+      i,
+      (at.0, ap (λ (ts : List (Term × PhaseSet)). slice_get ts i) popped.same_terminals ∙ at.1),
+      subst (λ (sets : List PhaseSet). IsSet sets i x.phase) (sym popped.same_reached) set,
+    )
+
+-- all who stand where somebody went over are marked
+module _ (g : GraphView) (old new : HubsView) (hub : Hub) (phases left : PhaseSet) (a b : SearchView) (over : IsOver g old a) (went : GoesOver hub phases left old new) (m : MarksAll (AtHub g hub left) a b) where
+  pub over_more : IsOver g new b
+  over_more other x gone stands own =
+      let own_a = subst (λ ts. IsOwn ts x) m.same_terminals own in
+      ⊎_elim
+      (λ before. m.kept x (over other x before stands own_a))
+      (λ now. m.marked x (subst (λ (h : Hub). StandsIn g h x.term) now.0 stands, now.1) own_a)
+      (went.only other x.phase gone)
+
+  pub over_marks : MarksAll (AtHub g hub phases) a b
+  over_marks =
+      marks_rest (AtHub g hub left) (AtHub g hub phases) a b
+      (λ x h. (h.0, went.asked x.phase h.1))
+      (λ x h own. ⊎_elim (λ l. inl (h.0, l)) (λ gone. inr (over hub x gone h.0 own)) (went.rest x.phase h.1))
+      m
+
+-- nothing is left to be gone over
+pub hub_nothing : (g : GraphView) (hub : Hub) (left : PhaseSet) (v : SearchView) → ((p : Phase) → has_phase left p ≡ false) → MarksAll (AtHub g hub left) v v
+hub_nothing g hub left v none = marks_nothing (AtHub g hub left) v (λ x h own. absurd (true≢false (sym h.1 ∙ none x.phase)))
+
+-- ---- places
+pub place_nobody : (g : GraphView) (place : Anchor) (left : PhaseSet) (v : SearchView) → members_of g place ≡ None → MarksAll (AtHub g (Place place) left) v v
+place_nobody g place left v none =
+    marks_nothing (AtHub g (Place place) left) v (λ x h own. let no : ◌≡◌ (Some h.0.0) None = sym h.0.1 ∙ none in absurd cc)
+
+pub place_members : (g : GraphView) (place : Anchor) (members : List Term) (left : PhaseSet) (a b : SearchView) → members_of g place ≡ Some members → MarksAll (AmongMembers members left) a b → MarksAll (AtHub g (Place place) left) a b
+place_members g place members left a b has =
+    marks_as (AmongMembers members left) (AtHub g (Place place) left) a b
+    (λ x h. ((members, has, h.0), h.1))
+    (λ x h own. (subst (λ (ms : List Term). Contains ms x.term) (same_Some h.0.0 members (sym h.0.1 ∙ has)) h.0.2, h.1))
+
+pub place_of : (g : GraphView) (t : Term) (phases : PhaseSet) (place : Anchor) (a b : SearchView) → place_at g t ≡ Some place → MarksAll (AtHub g (Place place) phases) a b → MarksAll (AtPlaceOf g t phases) a b
+place_of g t phases place a b at =
+    marks_as (AtHub g (Place place) phases) (AtPlaceOf g t phases) a b
+    (λ x h. (x.phase, h.1, (place, at, h.0.0, h.0.1, h.0.2, refl)))
+    (λ x (p, asked, (other, at', members, has, stands, same)) own.
+    let one : other ≡ place = same_Some other place (sym at' ∙ at) in
+    ((members, ap (members_of g) (sym one) ∙ has, stands), subst (λ (q : Phase). IsTrue (has_phase phases q)) same asked))
+
+-- ---- sections
+module _ (g : GraphView) (segment : Id) (line : Line) (n : ℕ) (section : List Term) (at : line_of g segment.number ≡ Some line) (is : slice_get line.sections n ≡ Some section) where
+  stands_in : (t : Term) → StandsIn g (Section segment n) t → Contains section t
+  stands_in t (other, at', terms, is', has) =
+      let one : other ≡ line = same_Some other line (sym at' ∙ at) in
+      subst (λ (ts : List Term). Contains ts t) (same_Some terms section (sym is' ∙ ap (λ (l : Line). slice_get l.sections n) one ∙ is)) has
+
+  pub section_members : (phases : PhaseSet) (a b : SearchView) → MarksAll (AmongMembers section phases) a b → MarksAll (AtHub g (Section segment n) phases) a b
+  section_members phases a b =
+      marks_as (AmongMembers section phases) (AtHub g (Section segment n) phases) a b
+      (λ x h. ((line, at, section, is, h.0), h.1))
+      (λ x h own. (stands_in x.term h.0, h.1))
+
+  members_of_section : (phases : PhaseSet) (a b : SearchView) → MarksAll (AtHub g (Section segment n) phases) a b → MarksAll (AmongMembers section phases) a b
+  members_of_section phases a b =
+      marks_as (AtHub g (Section segment n) phases) (AmongMembers section phases) a b
+      (λ x h. (stands_in x.term h.0, h.1))
+      (λ x h own. ((line, at, section, is, h.0), h.1))
+
+-- the section at an index
+pub section_at : (sections items : List (List Term)) (n : ℕ) (section : List Term) → items ≡ sections → n < length items → section ≡ get_or items n section → slice_get sections n ≡ Some section
+section_at sections items n section same within is =
+    subst (λ (ss : List (List Term)). slice_get ss n ≡ Some section) same (slice_get-get_or items n section within ∙ ap Some (sym is))
+
+-- one more section in which a terminal stands was gone over
+module _ (g : GraphView) (segment : Id) (line : Line) (items : List (List Term)) (n : ℕ) (section : List Term) (t : Term) (phases left : PhaseSet) (old new : HubsView) (a b c : SearchView) (at : line_of g segment.number ≡ Some line) (same : items ≡ line.sections) (within : n < length items) (is : section ≡ get_or items n section) (has : Contains section t) where
+  pub section_more : MarksAll (InSections (take n items) t phases) a b → IsOver g old b → GoesOver (Section segment n) phases left old new → MarksAll (AtHub g (Section segment n) left) b c → MarksAll (InSections (take (n + 1) items) t phases) a c × IsOver g new c
+  section_more first over went m = (
+    sections_more items n section section t phases a b c within is has first
+        (members_of_section g segment line n section at (section_at line.sections items n section same within is) phases b c (over_marks g old new (Section segment n) phases left b c over went m)),
+    over_more g old new (Section segment n) phases left b c over went m,
+  )
