@@ -1,67 +1,52 @@
--- What rows hold as one more statement is read.
-use Rattle.std.proofs.Common.{rules, ◌≡◌, ℕ, ◌+◌, ◌<◌, ◌≤◌, ◌==◌, List, [], ◌∷◌, ◌++◌, map, length, take, get_or, Bool, true, false, cond, refl, sym, ap, subst, ◌∙◌}
-use Rattle.std.specs.List.{filter}
-use Rattle.std.proofs.lemmas.List.{map-append, take_all}
-use Rattle.std.proofs.lemmas.List.Elements.{filter-append}
+-- What the rows of statements hold.
+use Rattle.std.proofs.Common.{◌≡◌, ℕ, ◌==◌, List, [], ◌∷◌, map, Bool, true, false, ◌&&◌, cond, None, option_map, refl, ap, ◌∙◌}
+use Rattle.std.specs.List.{filter, filter_map, cons_option}
+use Rattle.cim_words.specs.declared.identifier.Id.{Id}
 use Rattle.cim_words.specs.declared.known_prop.KnownProp.{KnownProp}
 use Rattle.cim_words.specs.declared.object.Object.{Object}
+use Rattle.cim_words.specs.declared.object.Object.TheVariants as object
 use Rattle.cim_words.specs.declared.statement.Statement.{Statement}
-use Rattle.cim_profile.specs.Facts.{Holds}
-use Rattle.cim_model.specs.Model as model
-use Rattle.cim_profile.specs.Table.{has_key, rows_at, values_at}
+use Rattle.cim_model.specs.Model.{id_said, is_about, is_by, is_id, is_naming, said_in}
+use Rattle.cim_model.specs.Values.{as_id, number_of_id}
+use Rattle.cim_profile.specs.Facts.{Holds, HoldsNaming, naming_row, row_read}
+use Rattle.cim_profile.specs.Table.{rows_at, values_at}
 use Rattle.cim_profile.specs.declared.table.Row.{Row}
-use Rattle.cim_profile.proofs.Lists.{take_next}
 
-pub append_nil : {X : Type 0} (xs : List X) → xs ++ [] ≡ xs
-append_nil xs = search rules
+-- one more statement, by the property or not, and of the subject or not
+one_held : {V : Type 0} (reads : Object → V) (k : KnownProp) (x : ℕ) (s : Statement) (kept own : List Statement) → values_at (map (row_read reads) kept) x ≡ map reads (said_in own k)
+    → (by about : Bool) → is_by k s ≡ by → is_about x s ≡ about → values_at (map (row_read reads) (cond by (s ∷ kept) kept)) x ≡ map reads (said_in (cond about (s ∷ own) own) k)
+one_held reads k x s kept own same true true by is = rw (is, by) (ap (λ (rest : List _). reads s.object ∷ rest) same)
+one_held reads k x s kept own same true false by is = rw is same
+one_held reads k x s kept own same false true by is = rw by same
+one_held reads k x s kept own same false false by is = same
 
--- what passes a test, read in some way, of two lists
-pub map_filter-append : {X Y : Type 0} (f : X → Y) (p : X → Bool) (xs ys : List X) → map f (filter p (xs ++ ys)) ≡ map f (filter p xs) ++ map f (filter p ys)
-map_filter-append f p xs ys = ap (map f) (filter-append p xs ys) ∙ map-append f (filter p xs) (filter p ys)
+-- the rows of the statements by a property hold what these say
+rows_hold : {V : Type 0} (reads : Object → V) (k : KnownProp) (m : List Statement) → Holds reads k m (map (row_read reads) (filter (is_by k) m))
+rows_hold reads k [] x = refl
+rows_hold reads k (s ∷ m) x = one_held reads k x s (filter (is_by k) m) (filter (is_about x) m) (rows_hold reads k m x) (is_by k s) (is_about x s) refl refl
 
-pub values-append : {V : Type 0} (rows more : List (Row V)) (x : ℕ) → values_at (rows ++ more) x ≡ values_at rows x ++ values_at more x
-values-append rows more x = map_filter-append (λ (row : Row _). row.value) (has_key x) rows more
+-- one more row and its statement, of what is looked for or not
+one_found : (row : Row Id) (s : Statement) (kept : List (Row Id)) (own : List Statement) → row.value.number ≡ s.subject.number → map number_of_id (map (λ (row : Row Id). row.value) kept) ≡ map (λ (s : Statement). s.subject.number) own
+    → (b : Bool) → map number_of_id (map (λ (row : Row Id). row.value) (cond b (row ∷ kept) kept)) ≡ map (λ (s : Statement). s.subject.number) (cond b (s ∷ own) own)
+one_found row s kept own is same true = rw (is, same) refl
+one_found row s kept own is same false = same
 
-said-append : (done more : List Statement) (x : ℕ) (k : KnownProp) → model.said (done ++ more) x k ≡ model.said done x k ++ model.said more x k
-said-append done more x k =
-    ap (λ (m : List Statement). model.said_in m k) (filter-append (model.is_about x) done more)
-    ∙ map_filter-append (λ (s : Statement). s.object) (model.is_by k) (model.about done x) (model.about more x)
+-- one more statement, by the property or not, and what it says
+one_name : (x : ℕ) (s : Statement) (rows : List (Row Id)) (own : List Statement) → map number_of_id (values_at rows x) ≡ map (λ (s : Statement). s.subject.number) own
+    → (by : Bool) (o : Object) → map number_of_id (values_at (cons_option (option_map (λ (n : ℕ). record { key = as_id n; value = s.subject }) (cond by (id_said o) None)) rows) x) ≡ map (λ (s : Statement). s.subject.number) (cond (by && is_id x o) (s ∷ own) own)
+one_name x s rows own same false o = same
+one_name x s rows own same true (object.Id id) = one_found (record { key = id; value = s.subject }) s (rows_at rows x) own refl same (id.number == x)
+one_name x s rows own same true (object.Name text) = same
+one_name x s rows own same true (object.Text text) = same
 
--- two lists that agree, and what they read of one more element
-joined : {V W O : Type 0} (sees : V → W) (reads : O → W) (values more : List V) (objects others : List O) → map sees values ≡ map reads objects → map sees more ≡ map reads others → map sees (values ++ more) ≡ map reads (objects ++ others)
-joined sees reads values more objects others front back = map-append sees values more ∙ rw (front, back) (sym (map-append reads objects others))
+-- the rows of those that name others hold the subjects that name them
+rows_name : (k : KnownProp) (m : List Statement) → HoldsNaming k m (filter_map (naming_row k) m)
+rows_name k [] x = refl
+rows_name k (s ∷ m) x = one_name x s (filter_map (naming_row k) m) (filter (is_naming k x) m) (rows_name k m x) (is_by k s) s.object
 
--- one row and one statement, of the same subject or not
-one_row : {V W : Type 0} (sees : V → W) (reads : Object → W) (k : KnownProp) (s : Statement) (row : Row V) → model.is_by k s ≡ true → sees row.value ≡ reads s.object → (b : Bool)
-    → map sees (map (λ (row : Row V). row.value) (cond b (row ∷ []) [])) ≡ map reads (model.said_in (cond b (s ∷ []) []) k)
-one_row sees reads k s row by same true = rw by (ap (λ (w : _). w ∷ []) same)
-one_row sees reads k s row by same false = refl
+-- what a table holds, where it keeps the rows of each key
+pub holds_kept : {V : Type 0} (reads : Object → V) (k : KnownProp) (m : List Statement) (rows table : List (Row V)) → rows ≡ map (row_read reads) (filter (is_by k) m) → ((x : ℕ) → rows_at table x ≡ rows_at rows x) → Holds reads k m table
+holds_kept {V} reads k m rows table are kept x = ap (map (λ (row : Row V). row.value)) (kept x ∙ ap (λ (those : List (Row V)). rows_at those x) are) ∙ rows_hold reads k m x
 
-passed_over : (k : KnownProp) (s : Statement) → model.is_by k s ≡ false → (b : Bool) → model.said_in (cond b (s ∷ []) []) k ≡ []
-passed_over k s by true = rw by refl
-passed_over k s by false = refl
-
--- one more statement that speaks of the property, and one that does not
-pub holds_more : {V W : Type 0} (sees : V → W) (reads : Object → W) (k : KnownProp) (m : List Statement) (i : ℕ) (s : Statement) (rows : List (Row V)) (row : Row V)
-    → i < length m → s ≡ get_or m i s → model.is_by k s ≡ true → row.key.number ≡ s.subject.number → sees row.value ≡ reads s.object
-    → Holds sees reads k (take i m) rows → Holds sees reads k (take (i + 1) m) (rows ++ row ∷ [])
-holds_more {V} sees reads k m i s rows row within is by key same holds =
-    subst (λ (done : List Statement). Holds sees reads k done (rows ++ row ∷ [])) (take_next m i s within is) step
-  where
-    step : Holds sees reads k (take i m ++ s ∷ []) (rows ++ row ∷ [])
-    step x = rw (values-append rows (row ∷ []) x, said-append (take i m) (s ∷ []) x k) (joined sees reads _ _ _ _ (holds x) (ap (λ (n : ℕ). map sees (map (λ (row : Row V). row.value) (cond (n == x) (row ∷ []) []))) key ∙ one_row sees reads k s row by same (s.subject.number == x)))
-
-pub holds_past : {V W : Type 0} (sees : V → W) (reads : Object → W) (k : KnownProp) (m : List Statement) (i : ℕ) (s : Statement) (rows : List (Row V))
-    → i < length m → s ≡ get_or m i s → model.is_by k s ≡ false
-    → Holds sees reads k (take i m) rows → Holds sees reads k (take (i + 1) m) rows
-holds_past sees reads k m i s rows within is by holds =
-    subst (λ (done : List Statement). Holds sees reads k done rows) (take_next m i s within is) step
-  where
-    step : Holds sees reads k (take i m ++ s ∷ []) rows
-    step x = rw (said-append (take i m) (s ∷ []) x k, passed_over k s by (s.subject.number == x), append_nil (model.said (take i m) x k)) (holds x)
-
--- what the table of the rows holds, where it keeps the rows of each key
-pub holds_kept : {V W : Type 0} (sees : V → W) (reads : Object → W) (k : KnownProp) (m : List Statement) (i : ℕ) (rows table : List (Row V))
-    → length m ≤ i → ((x : ℕ) → rows_at table x ≡ rows_at rows x) → Holds sees reads k (take i m) rows → Holds sees reads k m table
-holds_kept {V} sees reads k m i rows table all kept holds x =
-    ap (λ (found : List (Row V)). map sees (map (λ (row : Row V). row.value) found)) (kept x) ∙ holds x ∙ ap (λ (done : List Statement). map reads (model.said done x k)) (take_all i m all)
+pub names_kept : (k : KnownProp) (m : List Statement) (rows table : List (Row Id)) → rows ≡ filter_map (naming_row k) m → ((x : ℕ) → rows_at table x ≡ rows_at rows x) → HoldsNaming k m table
+names_kept k m rows table are kept x = ap (λ (found : List (Row Id)). map number_of_id (map (λ (row : Row Id). row.value) found)) (kept x ∙ ap (λ (those : List (Row Id)). rows_at those x) are) ∙ rows_name k m x

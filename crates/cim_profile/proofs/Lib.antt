@@ -1,7 +1,6 @@
 pub mod Held
 pub mod Lists
 pub mod Names
-pub mod NamingRows
 pub mod Parts
 pub mod PlaceLemmas
 pub mod PlaceOrder

@@ -1,11 +1,9 @@
 -- Places of marks, as the rows of a table that name segments give them.
 use Rattle.std.proofs.Common.{◌≡◌, ℕ, ◌+◌, ◌<◌, ◌≤◌, ◌==◌, List, [], ◌∷◌, ◌++◌, map, length, take, get_or, Bool, true, false, not, ◌&&◌, ◌||◌, refl, sym, ap, ◌∙◌}
 use Rattle.std.specs.Prelude.{nat_eq}
-use Rattle.std.specs.List.{filter, list_any, dedup, Contains}
-use Rattle.std.specs.Cmp.{IsEquivalence}
+use Rattle.std.specs.List.{filter, list_any}
 use Rattle.std.proofs.lemmas.List.{take_all}
-use Rattle.std.proofs.lemmas.List.Folds.{list_any-append, list_any_more, Any-from_list_any, list_any-from_Any}
-use Rattle.std.proofs.lemmas.List.Kept.{Contains-dedup, Contains-from_dedup}
+use Rattle.std.proofs.lemmas.List.Folds.{list_any-append, list_any_more}
 use Rattle.cim_words.specs.declared.identifier.Id.{Id}
 use Rattle.cim_words.specs.declared.known_prop.KnownProp.{KnownProp}
 use Rattle.cim_words.specs.declared.length.Length.{Length}
@@ -13,12 +11,15 @@ use Rattle.cim_words.specs.declared.statement.Statement.{Statement}
 use Rattle.cim_model.specs.Values.{mm_of, number_of_id}
 use Rattle.cim_profile.specs.Facts.{HoldsNaming}
 use Rattle.cim_model.specs.Model.{naming}
-use Rattle.cim_profile.specs.Places.{is_at, is_other, place_at}
-use Rattle.cim_model.specs.Profile.{share_one}
+use Rattle.cim_profile.specs.Places.{any_mark, is_at, is_other, place_at}
+use Rattle.cim_model.specs.Profile.{share_one, shares_place}
 use Rattle.cim_profile.specs.Table.{has_key, values_at}
+use Rattle.cim_profile.specs.MarkKind.{mark_lengths, marks_of}
+use Rattle.cim_profile.specs.declared.mark_kind.MarkKind.{MarkKind}
+use Rattle.cim_profile.specs.declared.mark_kind.MarkKind.TheVariants.{Cut, Clamp}
 use Rattle.cim_profile.specs.declared.marks.Place.{Place}
 use Rattle.cim_profile.specs.declared.table.Row.{Row}
-use Rattle.cim_profile.proofs.Lists.{any_said, any_read}
+use Rattle.cim_profile.proofs.Lists.{any_alike, any_said, any_read}
 use Rattle.cim_profile.proofs.RowValues.{map_itself}
 
 -- whether a mark passes a test at one of its lengths, if it is of a kind
@@ -102,28 +103,7 @@ placing_all kept lengths k m rows i places all holds placing s test =
     ∙ sym (any_said (λ y. list_any (λ n. test n y) (lengths y)) (λ (y : ℕ). y) kept (naming m k s))
     ∙ ap (list_any (λ y. list_any (λ n. test n y) (lengths y))) (map_itself (filter kept (naming m k s)))
 
--- ---- the order of places, and each once
-
-same_answer : (a b : Bool) → (a ≡ true → b ≡ true) → (b ≡ true → a ≡ true) → a ≡ b
-same_answer true b h g = sym (h refl)
-same_answer false true h g = g refl
-same_answer false false h g = refl
-
-any_contained : {X : Type 0} (p : X → Bool) (xs ys : List X) → ((x : X) → Contains xs x → Contains ys x) → list_any p xs ≡ true → list_any p ys ≡ true
-any_contained p xs ys holds h =
-    let (k, x, below, is, passes) = Any-from_list_any p xs h in
-    let (j, within, at) = holds x (k, below, is) in
-    list_any-from_Any p ys (j, x, within, at, passes)
-
-pub any_once : {X : Type 0} {E : X → X → Bool} (e : IsEquivalence E) → ((x y : X) → E x y ≡ true → x ≡ y) → (p : X → Bool) (xs : List X) → list_any p (dedup E xs) ≡ list_any p xs
-any_once {E = E} e exact p xs =
-    same_answer (list_any p (dedup E xs)) (list_any p xs) (any_contained p (dedup E xs) xs (Contains-from_dedup E xs)) (any_contained p xs (dedup E xs) (Contains-dedup e exact xs))
-
 -- ---- a place of another mark at one of some lengths
-
-any_alike : {X : Type 0} (p q : X → Bool) → ((x : X) → p x ≡ q x) → (xs : List X) → list_any p xs ≡ list_any q xs
-any_alike p q alike [] = refl
-any_alike p q alike (x ∷ xs) = ap (λ (b : Bool). b || list_any p xs) (alike x) ∙ ap (λ (b : Bool). q x || b) (any_alike p q alike xs)
 
 four : (a b c d : Bool) → ((a || b) || (c || d)) ≡ ((a || c) || (b || d))
 four true b c d = refl
@@ -144,23 +124,19 @@ one_other x lengths own y =
     any_alike _ (λ n. not (y == x) && list_any (nat_eq n) own) (λ n. along (not (y == x)) (nat_eq n) own) lengths
     ∙ along (not (y == x)) (λ n. list_any (nat_eq n) own) lengths
 
-others : (x : ℕ) (lengths : List ℕ) (own : ℕ → List ℕ) (ys : List ℕ)
-    → list_any (λ n. list_any (λ y. list_any (λ other. is_other n x other y) (own y)) ys) lengths ≡ list_any (λ y. not (y == x) && share_one lengths (own y)) ys
-others x lengths own ys =
-    turned (λ n y. list_any (λ other. is_other n x other y) (own y)) lengths ys
-    ∙ any_alike _ _ (λ y. one_other x lengths (own y) y) ys
+others : (m : List Statement) (k : MarkKind) (s x : ℕ) (lengths : List ℕ)
+    → list_any (λ n. any_mark m k s (is_other n x)) lengths ≡ list_any (λ y. not (y == x) && share_one lengths (mark_lengths m k y)) (marks_of m k s)
+others m k s x lengths =
+    turned (λ n y. list_any (λ other. is_other n x other y) (mark_lengths m k y)) lengths (marks_of m k s)
+    ∙ any_alike _ _ (λ y. one_other x lengths (mark_lengths m k y) y) (marks_of m k s)
 
-pub shared_by : (x : ℕ) (lengths : List Length) (found : Length → Bool) (cuts clamps : List ℕ) (cut_own clamp_own : ℕ → List ℕ)
-    → ((l : Length) → found l ≡ (list_any (λ y. list_any (λ other. is_other l.mm x other y) (cut_own y)) cuts || list_any (λ y. list_any (λ other. is_other l.mm x other y) (clamp_own y)) clamps))
-    → list_any found lengths ≡ (list_any (λ y. not (y == x) && share_one (map mm_of lengths) (cut_own y)) cuts || list_any (λ y. not (y == x) && share_one (map mm_of lengths) (clamp_own y)) clamps)
-shared_by x lengths found cuts clamps cut_own clamp_own is =
-    any_alike found (λ (l : Length). by_cut l.mm || by_clamp l.mm) is lengths
-    ∙ sym (any_read (λ n. by_cut n || by_clamp n) mm_of lengths)
-    ∙ any_or by_cut by_clamp (map mm_of lengths)
-    ∙ rw (others x (map mm_of lengths) cut_own cuts, others x (map mm_of lengths) clamp_own clamps) refl
+pub shared_by : (m : List Statement) (s x : ℕ) (lengths : List Length) (found : Length → Bool)
+    → ((l : Length) → found l ≡ (any_mark m Cut s (is_other l.mm x) || any_mark m Clamp s (is_other l.mm x))) → list_any found lengths ≡ shares_place m x (map mm_of lengths) s
+shared_by m s x lengths found is =
+    any_alike found (λ (l : Length). by Cut l.mm || by Clamp l.mm) is lengths
+    ∙ sym (any_read (λ n. by Cut n || by Clamp n) mm_of lengths)
+    ∙ any_or (by Cut) (by Clamp) (map mm_of lengths)
+    ∙ rw (others m Cut s x (map mm_of lengths), others m Clamp s x (map mm_of lengths)) refl
   where
-    by_cut : ℕ → Bool
-    by_cut n = list_any (λ y. list_any (λ other. is_other n x other y) (cut_own y)) cuts
-
-    by_clamp : ℕ → Bool
-    by_clamp n = list_any (λ y. list_any (λ other. is_other n x other y) (clamp_own y)) clamps
+    by : MarkKind → ℕ → Bool
+    by k n = any_mark m k s (is_other n x)

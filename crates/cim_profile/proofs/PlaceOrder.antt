@@ -3,12 +3,12 @@ use Rattle.std.proofs.Common.{◌≡◌, ℕ, suc, ◌+◌, ◌<◌, ◌≤◌, 
 use Rattle.std.specs.Prelude.{nat_eq, nat_lt}
 use Rattle.std.specs.List.{list_any, All, AllPairs}
 use Rattle.std.specs.List.Sorted.{IsStrictlySortedBy, IsPartitionedBy, IsPartitionPoint}
-use Rattle.std.specs.Cmp.{IsEquivalence, IsTotalOrder}
+use Rattle.std.specs.Cmp.{IsTotalOrder}
 use Rattle.std.specs.Ordering.{nat_cmp, ordering_then, eq_by_cmp, eq_of_both, is_eq, on}
 use Rattle.std.specs.declared.cmp.Ordering.TheVariants.{Less}
 use Rattle.std.proofs.lemmas.Bool.{cases_lt}
 use Rattle.std.proofs.lemmas.Bool.Decides.{nat_tests}
-use Rattle.std.proofs.lemmas.Cmp.{nat_cmp_total, nat_eq_equiv, and_equiv, on_equiv, on_total, then_total}
+use Rattle.std.proofs.lemmas.Cmp.{nat_cmp_total, on_total, then_total}
 use Rattle.std.proofs.lemmas.List.{take-append-drop, get_or-take, get_or-drop, length-take, length-drop}
 use Rattle.std.proofs.lemmas.List.Folds.{list_any-append, list_any_none}
 use Rattle.std.proofs.lemmas.Map.Keys.{Less-from_sorted}
@@ -108,9 +108,6 @@ found_by_two s n x places rest i is within sorted parts =
 
 abbrev pub same_place : Place → Place → Bool
 same_place = eq_of_both (on (λ (p : Place). p.segment.number) nat_eq) (eq_of_both (on (λ (p : Place). p.length.mm) nat_eq) (on (λ (p : Place). p.mark.number) nat_eq))
-
-pub same_place_equivalence : IsEquivalence same_place
-same_place_equivalence = and_equiv (on_equiv (λ (p : Place). p.segment.number) nat_eq_equiv) (and_equiv (on_equiv (λ (p : Place). p.length.mm) nat_eq_equiv) (on_equiv (λ (p : Place). p.mark.number) nat_eq_equiv))
 
 ties : (a b c d e f : ℕ) → (nat_eq a d && (nat_eq b e && nat_eq c f)) ≡ is_eq (ordering_then (nat_cmp a d) (ordering_then (nat_cmp b e) (nat_cmp c f)))
 ties a b c d e f = grind (arith, nat_tests)

@@ -1,38 +1,17 @@
 -- Rows of types, of which those that repeat the row before them are dropped.
-use Rattle.std.proofs.Common.{◌≡◌, ℕ, ◌≤◌, List, [], ◌∷◌, map, length, take, Bool, true, false, not, cond, ◌&&◌, ◌||◌, ◌==◌, Option, Some, None, refl, sym, ap, ◌∙◌}
-use Rattle.std.specs.List.{filter, dedup, dedup_from, list_any}
+use Rattle.std.proofs.Common.{◌≡◌, ℕ, List, [], ◌∷◌, map, Bool, true, false, not, cond, ◌&&◌, ◌||◌, ◌==◌, Option, Some, None, refl, sym, ap, ◌∙◌}
+use Rattle.std.specs.List.{filter, dedup, list_any}
 use Rattle.std.specs.Option.{option_eq}
 use Rattle.cim_words.specs.declared.class.Class.{Class}
 use Rattle.cim_words.specs.declared.known_prop.KnownProp.TheVariants.{K1}
 use Rattle.cim_words.specs.declared.statement.Statement.{Statement}
-use Rattle.cim_profile.specs.Facts.{Holds, HoldsTypes, is_present_and, present}
-use Rattle.cim_model.specs.Model.{class_named, is_empty, is_of, said}
+use Rattle.cim_profile.specs.Facts.{Holds, HoldsTypes, is_present_and, present, row_read}
+use Rattle.cim_model.specs.Model.{class_named, is_by, is_empty, is_of, said}
 use Rattle.cim_profile.specs.Table.{has_key, rows_at, values_at}
 use Rattle.cim_profile.specs.declared.table.Row.{Row}
 use Rattle.cim_profile.proofs.Held.{holds_kept}
-use Rattle.cim_profile.proofs.Lists.{any_said, any_there, filter_map_present}
-use Rattle.cim_profile.proofs.RowValues.{map_itself}
+use Rattle.cim_profile.proofs.Lists.{any_dedup, any_said, any_there, filter_map_present}
 use Rattle.cim_model.proofs.Runs.{same_number}
-
--- ---- a test of some element, where repeated ones are dropped
-
-twice : (a b r : Bool) → a ≡ b → (b || r) ≡ (b || (a || r))
-twice a true r same = refl
-twice true false r same = absurd cc
-twice false false r same = refl
-
-any_one : {X : Type 0} (q : X → Bool) (k x : X) (xs same_kept other_kept : List X) (b : Bool) → (b ≡ true → q x ≡ q k)
-    → list_any q same_kept ≡ (q k || list_any q xs) → list_any q other_kept ≡ (q x || list_any q xs) → list_any q (cond b same_kept (k ∷ other_kept)) ≡ (q k || (q x || list_any q xs))
-any_one q k x xs same_kept other_kept true alike same other = same ∙ twice (q x) (q k) (list_any q xs) (alike refl)
-any_one q k x xs same_kept other_kept false alike same other = ap (λ (r : Bool). q k || r) other
-
-any_from : {X : Type 0} (same : X → X → Bool) (q : X → Bool) → ((x y : X) → same x y ≡ true → q x ≡ q y) → (k : X) (xs : List X) → list_any q (dedup_from same k xs) ≡ (q k || list_any q xs)
-any_from same q alike k [] = refl
-any_from same q alike k (x ∷ xs) = any_one q k x xs (dedup_from same k xs) (dedup_from same x xs) (same x k) (alike x k) (any_from same q alike k xs) (any_from same q alike x xs)
-
-any_dedup : {X : Type 0} (same : X → X → Bool) → ((x y : X) → same x y ≡ true → x ≡ y) → (q : X → Bool) (xs : List X) → list_any q (dedup same xs) ≡ list_any q xs
-any_dedup same equal q [] = refl
-any_dedup same equal q (x ∷ xs) = any_from same q (λ y z h. ap q (equal y z h)) x xs
 
 -- ---- values of rows, as tests of the rows
 
@@ -51,30 +30,28 @@ empty_read f p (x ∷ xs) = empty_one f x (filter p xs) (p x) ∙ ap (λ (r : Bo
 any_value : (test : Class → Bool) (rows : List (Row (Option Class))) (x : ℕ) → list_any test (present (values_at rows x)) ≡ list_any (λ (row : Row (Option Class)). has_key x row && is_present_and test row.value) rows
 any_value test rows x = any_there test (values_at rows x) ∙ any_said (is_present_and test) (λ (row : Row (Option Class)). row.value) (has_key x) rows
 
-pub any_type : (test : Class → Bool) (values : List (Option Class)) (m : List Statement) (x : ℕ) → map (λ (class : Option Class). class) values ≡ map class_named (said m x K1) → list_any test (present values) ≡ is_of m test x
-any_type test values m x same = ap (λ (those : List (Option Class)). list_any test (present those)) (sym (map_itself values) ∙ same) ∙ ap (list_any test) (sym (filter_map_present class_named (said m x K1)))
+pub any_type : (test : Class → Bool) (values : List (Option Class)) (m : List Statement) (x : ℕ) → values ≡ map class_named (said m x K1) → list_any test (present values) ≡ is_of m test x
+any_type test values m x same = ap (λ (those : List (Option Class)). list_any test (present those)) same ∙ ap (list_any test) (sym (filter_map_present class_named (said m x K1)))
 
-empty_type : {X Y Z : Type 0} (f : X → Z) (g : Y → Z) (values : List X) (objects : List Y) → map f values ≡ map g objects → is_empty values ≡ is_empty objects
-empty_type f g [] [] same = refl
-empty_type f g [] (y ∷ ys) same = absurd cc
-empty_type f g (x ∷ xs) [] same = absurd cc
-empty_type f g (x ∷ xs) (y ∷ ys) same = refl
+empty_map : {Y Z : Type 0} (g : Y → Z) (objects : List Y) → is_empty (map g objects) ≡ is_empty objects
+empty_map g [] = refl
+empty_map g (y ∷ ys) = refl
 
 -- what the table of the rows holds, without the repeated ones
-pub types_kept : (same : Row (Option Class) → Row (Option Class) → Bool) → ((one other : Row (Option Class)) → same one other ≡ true → one ≡ other) → (m : List Statement) (i : ℕ) (rows kept table : List (Row (Option Class)))
-    → length m ≤ i → kept ≡ dedup same rows → ((x : ℕ) → rows_at table x ≡ rows_at kept x) → Holds (λ (class : Option Class). class) class_named K1 (take i m) rows → HoldsTypes m table
-types_kept same equal m i rows kept table all are found holds x = record {
+pub types_kept : (same : Row (Option Class) → Row (Option Class) → Bool) → ((one other : Row (Option Class)) → same one other ≡ true → one ≡ other) → (m : List Statement) (rows kept table : List (Row (Option Class)))
+    → rows ≡ map (row_read class_named) (filter (is_by K1) m) → kept ≡ dedup same rows → ((x : ℕ) → rows_at table x ≡ rows_at kept x) → HoldsTypes m table
+types_kept same equal m rows kept table those are found x = record {
   any = λ test. ap (list_any test) (ap present here) ∙ any_value test kept x ∙ ap (list_any (λ (row : Row (Option Class)). has_key x row && is_present_and test row.value)) are
       ∙ any_dedup same equal _ rows ∙ sym (any_value test rows x) ∙ any_type test (values_at rows x) m x (whole x);
   empty = ap is_empty here ∙ empty_read _ (has_key x) kept ∙ ap (λ (list : List (Row (Option Class))). not (list_any (has_key x) list)) are
-      ∙ ap not (any_dedup same equal (has_key x) rows) ∙ sym (empty_read _ (has_key x) rows) ∙ empty_type _ class_named (values_at rows x) (said m x K1) (whole x);
+      ∙ ap not (any_dedup same equal (has_key x) rows) ∙ sym (empty_read _ (has_key x) rows) ∙ ap is_empty (whole x) ∙ empty_map class_named (said m x K1);
 }
   where
     here : values_at table x ≡ values_at kept x
     here = ap (map (λ (row : Row (Option Class)). row.value)) (found x)
 
-    whole : Holds (λ (class : Option Class). class) class_named K1 m rows
-    whole = holds_kept (λ (class : Option Class). class) class_named K1 m i rows rows all (λ y. refl) holds
+    whole : Holds class_named K1 m rows
+    whole = holds_kept class_named K1 m rows rows those (λ y. refl)
 
 -- ---- equality of rows
 

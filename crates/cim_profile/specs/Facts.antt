@@ -1,15 +1,16 @@
 -- What the tables over a model hold.
-use Rattle.std.specs.Prelude.{ℕ, ◌≡◌, List, [], ◌∷◌, map, Bool, false, Option, Some, None}
-use Rattle.std.specs.List.{list_any}
+use Rattle.std.specs.Prelude.{ℕ, ◌≡◌, List, map, Bool, false, Option, Some, None, option_map}
+use Rattle.std.specs.List.{filter_map, list_any}
 use Rattle.cim_words.specs.Groups as groups
 use Rattle.cim_words.specs.declared.class.Class.{Class}
 use Rattle.cim_words.specs.declared.identifier.Id.{Id}
 use Rattle.cim_words.specs.declared.known_prop.KnownProp.{KnownProp}
 use Rattle.cim_words.specs.declared.known_prop.KnownProp.TheVariants.{K1}
+use Rattle.cim_words.specs.declared.length.Length.{Length}
 use Rattle.cim_words.specs.declared.object.Object.{Object}
 use Rattle.cim_words.specs.declared.statement.Statement.{Statement}
-use Rattle.cim_model.specs.Model.{said, naming, is_empty, is_of}
-use Rattle.cim_model.specs.Values.{number_of_id}
+use Rattle.cim_model.specs.Model.{said, naming, named_by, is_empty, is_of}
+use Rattle.cim_model.specs.Values.{as_id, as_length, length_said, number_of_id}
 use Rattle.cim_profile.specs.Table.{values_at}
 use Rattle.cim_profile.specs.declared.table.Row.{Row}
 use Rattle.cim_profile.specs.declared.kind.Kind.{Kind}
@@ -29,9 +30,20 @@ kind_test kind.SwitchPhase = groups.is_switch_phase
 kind_test kind.Known = groups.is_known_class
 kind_test (kind.Carrying k) = groups.counts_on k
 
--- the rows of a subject hold what its statements by a property say, each read in one way and seen in another
-abbrev pub Holds : {V W : Type 0} → (V → W) → (Object → W) → KnownProp → List Statement → List (Row V) → Type 0
-Holds sees reads k m rows = (x : ℕ) → map sees (values_at rows x) ≡ map reads (said m x k)
+-- the length that an object says
+abbrev pub length_read : Object → Option Length
+length_read o = option_map as_length (length_said o)
+
+-- the row of a statement, as its object is read, and that of one that names another subject by a property
+abbrev pub row_read : {V : Type 0} → (Object → V) → Statement → Row V
+row_read reads s = record { key = s.subject; value = reads s.object }
+
+abbrev pub naming_row : KnownProp → Statement → Option (Row Id)
+naming_row k s = option_map (λ (n : ℕ). record { key = as_id n; value = s.subject }) (named_by k s)
+
+-- the rows of a subject hold what its statements by a property say, as it is read
+abbrev pub Holds : {V : Type 0} → (Object → V) → KnownProp → List Statement → List (Row V) → Type 0
+Holds reads k m rows = (x : ℕ) → values_at rows x ≡ map reads (said m x k)
 
 -- the rows of an identifier hold the subjects that name it by a property
 abbrev pub HoldsNaming : KnownProp → List Statement → List (Row Id) → Type 0
@@ -43,18 +55,8 @@ is_present_and test None = false
 is_present_and test (Some value) = test value
 
 -- what is there among values that may be missing
-abbrev pub cons_present : {V : Type 0} → Option V → List V → List V
-cons_present None values = values
-cons_present (Some value) values = value ∷ values
-
 abbrev pub present : {V : Type 0} → List (Option V) → List V
-present [] = []
-present (one ∷ more) = cons_present one (present more)
-
--- the same of lengths, 0 where there are no values
-abbrev pub present_or_zero : List (Option ℕ) → List ℕ
-present_or_zero [] = 0 ∷ []
-present_or_zero (one ∷ more) = present (one ∷ more)
+present {V} values = filter_map (λ (value : Option V). value) values
 
 -- values name the classes that the type statements of a subject name, however often, and there are some where it has any
 pub record NameTypes (m : List Statement) (x : ℕ) (values : List (Option Class)) : Type 0 where

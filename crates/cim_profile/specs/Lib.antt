@@ -1,5 +1,6 @@
 pub mod Facts
 pub mod FirstBreak
+pub mod MarkKind
 pub mod Places
 pub mod Subject
 pub mod Table

@@ -6,16 +6,21 @@ use Rattle.std.specs.declared.cmp.Ordering.{Ordering}
 use Rattle.cim_words.specs.declared.identifier.Id.{Id}
 use Rattle.cim_words.specs.declared.length.Length.{Length}
 use Rattle.cim_words.specs.declared.statement.Statement.{Statement}
-use Rattle.cim_model.specs.Stated.{stated_lengths, cut_lengths, clamp_lengths, cuts_of, clamps_of}
+use Rattle.cim_model.specs.Stated.{ids_said, stated_lengths}
 use Rattle.cim_model.specs.Profile.{is_beyond, shares_place}
+use Rattle.cim_profile.specs.MarkKind.{is_mark, mark_lengths, marks_of, segment_of}
+use Rattle.cim_profile.specs.declared.mark_kind.MarkKind.{MarkKind}
+use Rattle.cim_profile.specs.declared.mark_kind.MarkKind.TheVariants.{Cut, Clamp}
 use Rattle.cim_profile.specs.declared.marks.Place.{Place}
 
--- a mark with these lengths lies beyond a segment, and a cut may share a place there too
-abbrev pub lies_beyond : List Statement → List ℕ → ℕ → Bool
-lies_beyond m lengths s = is_beyond lengths (stated_lengths m s)
+-- a mark of a kind, with these lengths, lies beyond a segment, or shares a place there if it is a cut
+abbrev pub lies_wrongly : List Statement → MarkKind → ℕ → List ℕ → ℕ → Bool
+lies_wrongly m Cut x lengths s = is_beyond lengths (stated_lengths m s) || shares_place m x lengths s
+lies_wrongly m Clamp x lengths s = is_beyond lengths (stated_lengths m s)
 
-abbrev pub lies_wrongly : List Statement → ℕ → List ℕ → ℕ → Bool
-lies_wrongly m x lengths s = is_beyond lengths (stated_lengths m s) || shares_place m x lengths s
+-- whether a subject is a mark of a kind and lies wrongly along a segment that it names
+abbrev pub is_misplaced : List Statement → MarkKind → ℕ → Bool
+is_misplaced m k x = is_mark m k x && list_any (lies_wrongly m k x (mark_lengths m k x)) (ids_said m x (segment_of k))
 
 -- a mark of a segment at one of its lengths
 abbrev pub place_at : Id → Id → Length → Place
@@ -37,20 +42,14 @@ is_at s test p = p.segment.number == s && test p.length.mm p.mark.number
 abbrev pub is_other : ℕ → ℕ → ℕ → ℕ → Bool
 is_other n x other y = not (y == x) && nat_eq n other
 
--- whether some cut of a segment passes a test at one of its lengths, and the same of a clamp
-abbrev pub any_cut : List Statement → ℕ → (ℕ → ℕ → Bool) → Bool
-any_cut m s test = list_any (λ y. list_any (λ n. test n y) (cut_lengths m y)) (cuts_of m s)
+-- whether some mark of a kind of a segment passes a test at one of its lengths
+abbrev pub any_mark : List Statement → MarkKind → ℕ → (ℕ → ℕ → Bool) → Bool
+any_mark m k s test = list_any (λ y. list_any (λ n. test n y) (mark_lengths m k y)) (marks_of m k s)
 
-abbrev pub any_clamp : List Statement → ℕ → (ℕ → ℕ → Bool) → Bool
-any_clamp m s test = list_any (λ y. list_any (λ n. test n y) (clamp_lengths m y)) (clamps_of m s)
-
--- places hold all cuts, or all clamps, or both, at all their lengths and nothing else: whatever test of lengths and marks
+-- places hold all marks of a kind, or all marks, at all their lengths and nothing else: whatever test of lengths and marks
 -- is taken, a place along a segment passes it exactly where such a mark of the segment does
-abbrev pub HoldsCuts : List Statement → List Place → Type 0
-HoldsCuts m places = (s : ℕ) (test : ℕ → ℕ → Bool) → list_any (is_at s test) places ≡ any_cut m s test
-
-abbrev pub HoldsClamps : List Statement → List Place → Type 0
-HoldsClamps m places = (s : ℕ) (test : ℕ → ℕ → Bool) → list_any (is_at s test) places ≡ any_clamp m s test
+abbrev pub HoldsMarks : List Statement → MarkKind → List Place → Type 0
+HoldsMarks m k places = (s : ℕ) (test : ℕ → ℕ → Bool) → list_any (is_at s test) places ≡ any_mark m k s test
 
 abbrev pub HoldsPlaces : List Statement → List Place → Type 0
-HoldsPlaces m places = (s : ℕ) (test : ℕ → ℕ → Bool) → list_any (is_at s test) places ≡ (any_cut m s test || any_clamp m s test)
+HoldsPlaces m places = (s : ℕ) (test : ℕ → ℕ → Bool) → list_any (is_at s test) places ≡ (any_mark m Cut s test || any_mark m Clamp s test)

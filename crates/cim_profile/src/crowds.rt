@@ -6,6 +6,7 @@ ghost use Rattle.cim_profile.specs.Subject.{IsSubjectOf};
 
 use crate::facts::Facts;
 use crate::kind::Kind;
+use crate::mark_kind::MarkKind;
 use crate::subject::Subject;
 use cim_words::{Id, NoMemory};
 use std::alloc::Global;
@@ -65,8 +66,10 @@ fn are_misnumbered(
     if !(these.is_empty() && those.is_empty() && subject.is_of(Kind::Segment)) {
         return Ok(true);
     }
-    let no_cuts = facts.cuts_of(alloc, subject.id)?.is_empty();
-    let no_clamps = facts.clamps_of(alloc, subject.id)?.is_empty();
+    let no_cuts = facts.marks_of(alloc, MarkKind::Cut, subject.id)?.is_empty();
+    let no_clamps = facts
+        .marks_of(alloc, MarkKind::Clamp, subject.id)?
+        .is_empty();
     Ok(!(no_cuts && no_clamps))
 }
 
@@ -104,8 +107,8 @@ fn has_many_marks(alloc: Global, facts: &Facts<'_>, subject: &Subject<'_>) -> Re
     if !subject.is_of(Kind::Segment) {
         return Ok(false);
     }
-    let cuts = facts.cuts_of(alloc, subject.id)?.len();
-    let clamps = facts.clamps_of(alloc, subject.id)?.len();
+    let cuts = facts.marks_of(alloc, MarkKind::Cut, subject.id)?.len();
+    let clamps = facts.marks_of(alloc, MarkKind::Clamp, subject.id)?.len();
     Ok(cuts > 256 || cuts + clamps > 256)
 }
 

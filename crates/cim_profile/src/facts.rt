@@ -1,12 +1,13 @@
 //! What is looked up in a model.
 
-ghost use Rattle.std.specs.Prelude.{◌≡◌, ℕ, List, Option, map, option_map, IfOk};
+ghost use Rattle.std.specs.Prelude.{◌≡◌, Option, map, IfOk};
 ghost use Rattle.std.specs.List.{filter, list_any};
-ghost use Rattle.cim_words.specs.declared.identifier.Id.{Id};
-ghost use Rattle.cim_words.specs.declared.length.Length.{Length};
 ghost use Rattle.cim_words.specs.declared.class.Class.{Class};
-ghost use Rattle.cim_words.specs.declared.known_prop.KnownProp.TheVariants.{K2, K3, K5, K8, K9, K10, K11, K12};
+ghost use Rattle.cim_words.specs.declared.known_prop.KnownProp.{KnownProp};
+ghost use Rattle.cim_words.specs.declared.known_prop.KnownProp.TheVariants.{K2, K3, K5, K8};
 ghost use Rattle.cim_profile.specs.Facts as spec;
+ghost use Rattle.cim_profile.specs.MarkKind as marks;
+ghost use Rattle.cim_profile.specs.declared.mark_kind.MarkKind.TheVariants.{Cut, Clamp};
 ghost use Rattle.cim_model.specs.Values as values;
 ghost use Rattle.cim_model.specs.Model as model;
 ghost use Rattle.cim_model.specs.Stated as network;
@@ -14,7 +15,8 @@ ghost use Rattle.cim_model.specs.Profile.{is_thing};
 ghost use Rattle.cim_profile.specs.declared.table.Row.{Row};
 
 use crate::kind::Kind;
-use crate::stated::{lengths, naming, numbers, types};
+use crate::mark_kind::MarkKind;
+use crate::stated::{naming, types, values};
 use crate::table::{Row, Table};
 use cim_words::{Class, Id, KnownProp, Length, NoMemory, Statement};
 use std::alloc::Global;
@@ -35,12 +37,12 @@ pub(crate) struct Facts<'a> {
     ghost of_types: { spec.HoldsTypes statements.now types },
     ghost of_terminals: { spec.HoldsNaming K2 statements.now terminals },
     ghost of_terminals_at: { spec.HoldsNaming K3 statements.now terminals_at },
-    ghost of_cuts: { spec.HoldsNaming K11 statements.now cuts },
-    ghost of_clamps: { spec.HoldsNaming K9 statements.now clamps },
-    ghost of_numbers: { spec.Holds (λ (number : Option ℕ). number) values.number_said K5 statements.now numbers },
-    ghost of_lengths: { spec.Holds (option_map values.mm_of) values.length_said K8 statements.now lengths },
-    ghost of_cut_lengths: { spec.Holds (option_map values.mm_of) values.length_said K12 statements.now cut_lengths },
-    ghost of_clamp_lengths: { spec.Holds (option_map values.mm_of) values.length_said K10 statements.now clamp_lengths },
+    ghost of_cuts: { spec.HoldsNaming (marks.segment_of Cut) statements.now cuts },
+    ghost of_clamps: { spec.HoldsNaming (marks.segment_of Clamp) statements.now clamps },
+    ghost of_numbers: { spec.Holds values.number_said K5 statements.now numbers },
+    ghost of_lengths: { spec.Holds spec.length_read K8 statements.now lengths },
+    ghost of_cut_lengths: { spec.Holds spec.length_read (marks.length_of Cut) statements.now cut_lengths },
+    ghost of_clamp_lengths: { spec.Holds spec.length_read (marks.length_of Clamp) statements.now clamp_lengths },
 }
 
 impl<'a> Facts<'a> {
@@ -53,12 +55,12 @@ impl<'a> Facts<'a> {
             types: types(alloc, statements)?,
             terminals: naming(alloc, statements, KnownProp::K2)?,
             terminals_at: naming(alloc, statements, KnownProp::K3)?,
-            cuts: naming(alloc, statements, KnownProp::K11)?,
-            clamps: naming(alloc, statements, KnownProp::K9)?,
-            numbers: numbers(alloc, statements)?,
-            lengths: lengths(alloc, statements, KnownProp::K8)?,
-            cut_lengths: lengths(alloc, statements, KnownProp::K12)?,
-            clamp_lengths: lengths(alloc, statements, KnownProp::K10)?,
+            cuts: naming(alloc, statements, MarkKind::Cut.segment())?,
+            clamps: naming(alloc, statements, MarkKind::Clamp.segment())?,
+            numbers: values(alloc, statements, KnownProp::K5)?,
+            lengths: values(alloc, statements, KnownProp::K8)?,
+            cut_lengths: values(alloc, statements, MarkKind::Cut.length())?,
+            clamp_lengths: values(alloc, statements, MarkKind::Clamp.length())?,
         })
     }
 
@@ -88,57 +90,55 @@ impl<'a> Facts<'a> {
     pub(crate) fn terminals_of(&self, alloc: Global, equipment: Id) -> Result<Vec<Id>, NoMemory>
         ensures { IfOk result (λ ids. map values.number_of_id ids.items ≡ network.terminals_of self.now.statements.now equipment.number) }
     {
-        self.those_of(alloc, self.terminals.at(equipment), Kind::Terminal)
+        self.those_of(alloc, &self.terminals, equipment, Kind::Terminal)
     }
 
     /// The terminals at a node.
     pub(crate) fn terminals_at(&self, alloc: Global, node: Id) -> Result<Vec<Id>, NoMemory>
         ensures { IfOk result (λ ids. map values.number_of_id ids.items ≡ network.terminals_at self.now.statements.now node.number) }
     {
-        self.those_of(alloc, self.terminals_at.at(node), Kind::Terminal)
+        self.those_of(alloc, &self.terminals_at, node, Kind::Terminal)
     }
 
-    /// The cuts of a segment.
-    pub(crate) fn cuts_of(&self, alloc: Global, segment: Id) -> Result<Vec<Id>, NoMemory>
-        ensures { IfOk result (λ ids. map values.number_of_id ids.items ≡ network.cuts_of self.now.statements.now segment.number) }
+    /// The marks of a kind of a segment.
+    pub(crate) fn marks_of(
+        &self,
+        alloc: Global,
+        kind: MarkKind,
+        segment: Id,
+    ) -> Result<Vec<Id>, NoMemory>
+        ensures { IfOk result (λ ids. map values.number_of_id ids.items ≡ marks.marks_of self.now.statements.now kind segment.number) }
     {
-        self.those_of(alloc, self.cuts.at(segment), Kind::Cut)
+        self.those_of(alloc, self.marks(kind), segment, kind.class())
     }
 
-    /// The clamps of a segment.
-    pub(crate) fn clamps_of(&self, alloc: Global, segment: Id) -> Result<Vec<Id>, NoMemory>
-        ensures { IfOk result (λ ids. map values.number_of_id ids.items ≡ network.clamps_of self.now.statements.now segment.number) }
+    /// Those that name a segment as marks of a kind do.
+    pub(crate) fn marks(&self, kind: MarkKind) -> &Table<Id>
+        ensures { spec.HoldsNaming (marks.segment_of kind) self.now.statements.now result.now }
     {
-        self.those_of(alloc, self.clamps.at(segment), Kind::Clamp)
-    }
-
-    /// The rows of those that name a segment as a cut does.
-    pub(crate) fn cut_rows(&self) -> &[Row<Id>]
-        ensures { spec.HoldsNaming K11 self.now.statements.now result.now }
-    {
-        self.cuts.rows()
-    }
-
-    /// The rows of those that name a segment as a clamp does.
-    pub(crate) fn clamp_rows(&self) -> &[Row<Id>]
-        ensures { spec.HoldsNaming K9 self.now.statements.now result.now }
-    {
-        self.clamps.rows()
-    }
-
-    /// The identifiers in rows whose subjects are of a kind.
-    fn those_of(&self, alloc: Global, rows: &[Row<Id>], kind: Kind) -> Result<Vec<Id>, NoMemory>
-        ensures { IfOk result (λ ids. map values.number_of_id ids.items
-            ≡ filter (model.is_of self.now.statements.now (spec.kind_test kind)) (map (λ (row : Row Id). row.value.number) rows.now)) }
-    {
-        let mut ids = Vec::new(alloc);
-        for row in rows {
-            if !self.is_of(kind, row.value) {
-                continue;
-            }
-            ids.push(row.value)?;
+        match kind {
+            MarkKind::Cut => &self.cuts,
+            MarkKind::Clamp => &self.clamps,
         }
-        Ok(ids)
+    }
+
+    /// Those that name a subject, as a table of them says, and are of a kind.
+    fn those_of(
+        &self,
+        alloc: Global,
+        table: &Table<Id>,
+        named: Id,
+        kind: Kind,
+    ) -> Result<Vec<Id>, NoMemory>
+        ensures { (k : KnownProp) → spec.HoldsNaming k self.now.statements.now table.now → IfOk result (λ ids. map values.number_of_id ids.items
+            ≡ filter (model.is_of self.now.statements.now (spec.kind_test kind)) (model.naming self.now.statements.now k named.number)) }
+    {
+        table
+            .at(named)
+            .iter()
+            .map(|row| row.value)
+            .filter(|id| self.is_of(kind, *id))
+            .collect(alloc)
     }
 
     /// The sequence numbers of a terminal.
@@ -159,44 +159,39 @@ impl<'a> Facts<'a> {
         }
     }
 
-    /// The length of a cut, which is 0 where none is stated.
-    pub(crate) fn cut_lengths(&self, alloc: Global, cut: Id) -> Result<Vec<Length>, NoMemory>
-        ensures { IfOk result (λ lengths. map values.mm_of lengths.items ≡ network.cut_lengths self.now.statements.now cut.number) }
+    /// The length of a mark of a kind, which is 0 where none is stated.
+    pub(crate) fn mark_lengths(
+        &self,
+        alloc: Global,
+        kind: MarkKind,
+        mark: Id,
+    ) -> Result<Vec<Length>, NoMemory>
+        ensures { IfOk result (λ lengths. map values.mm_of lengths.items ≡ marks.mark_lengths self.now.statements.now kind mark.number) }
     {
-        or_zero(alloc, self.cut_lengths.at(cut))
+        let rows = self.lengths_of(kind).at(mark);
+        let mut lengths = present(alloc, rows)?;
+        if rows.is_empty() {
+            lengths.push(Length { mm: 0 })?;
+        }
+        Ok(lengths)
     }
 
-    /// The length of a clamp, which is 0 where none is stated.
-    pub(crate) fn clamp_lengths(&self, alloc: Global, clamp: Id) -> Result<Vec<Length>, NoMemory>
-        ensures { IfOk result (λ lengths. map values.mm_of lengths.items ≡ network.clamp_lengths self.now.statements.now clamp.number) }
+    /// The lengths that are stated as those of marks of a kind.
+    fn lengths_of(&self, kind: MarkKind) -> &Table<Option<Length>>
+        ensures { spec.Holds spec.length_read (marks.length_of kind) self.now.statements.now result.now }
     {
-        or_zero(alloc, self.clamp_lengths.at(clamp))
+        match kind {
+            MarkKind::Cut => &self.cut_lengths,
+            MarkKind::Clamp => &self.clamp_lengths,
+        }
     }
-}
-
-/// The lengths in rows, 0 where there is no row.
-fn or_zero(alloc: Global, rows: &[Row<Option<Length>>]) -> Result<Vec<Length>, NoMemory>
-    ensures { IfOk result (λ lengths. map values.mm_of lengths.items ≡ spec.present_or_zero (map (λ (row : Row (Option Length)). option_map values.mm_of row.value) rows.now)) }
-{
-    let mut lengths = present(alloc, rows)?;
-    if rows.is_empty() {
-        lengths.push(Length { mm: 0 })?;
-    }
-    Ok(lengths)
 }
 
 /// The values that are there in rows.
 fn present<V: Copy>(alloc: Global, rows: &[Row<Option<V>>]) -> Result<Vec<V>, NoMemory>
     ensures { IfOk result (λ values. values.items ≡ spec.present (map (λ (row : Row (Option V)). row.value) rows.now)) }
 {
-    let mut values = Vec::new(alloc);
-    for row in rows {
-        let Some(value) = row.value else {
-            continue;
-        };
-        values.push(value)?;
-    }
-    Ok(values)
+    rows.iter().filter_map(|row| row.value).collect(alloc)
 }
 
 /// Whether a row names a class of a kind.

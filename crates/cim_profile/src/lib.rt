@@ -7,6 +7,7 @@ mod facts;
 mod faults;
 mod forms;
 mod kind;
+mod mark_kind;
 mod marks;
 mod places;
 mod rules;

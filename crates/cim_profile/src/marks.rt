@@ -1,12 +1,12 @@
 //! The places of cuts and clamps along their segments.
 
-ghost use Rattle.std.specs.Prelude.{◌≡◌, [], IfOk, OnOk, List, map, ◌++◌, nat_lt, ◌==◌, ◌&&◌, ◌||◌};
+ghost use Rattle.std.specs.Prelude.{◌≡◌, [], IfOk, OnOk, List, map, ◌++◌};
 ghost use Rattle.std.specs.List.{list_any};
 ghost use Rattle.cim_profile.specs.Places as spec;
-ghost use Rattle.cim_profile.specs.Places.{HoldsPlaces, HoldsCuts, HoldsClamps};
+ghost use Rattle.cim_profile.specs.Places.{HoldsMarks, HoldsPlaces};
 
 use crate::facts::Facts;
-use crate::kind::Kind;
+use crate::mark_kind::MarkKind;
 use cim_words::{Id, Length, NoMemory};
 use std::alloc::Global;
 use std::marker::Model;
@@ -71,8 +71,8 @@ impl Places {
     pub(crate) fn of(alloc: Global, facts: &Facts<'_>) -> Result<Places, NoMemory>
         ensures { IfOk result (HoldsPlaces facts.now.statements.now) }
     {
-        let mut places = cut_places(alloc, facts)?;
-        let clamps = clamp_places(alloc, facts)?;
+        let mut places = places_of(alloc, facts, MarkKind::Cut)?;
+        let clamps = places_of(alloc, facts, MarkKind::Clamp)?;
         places.extend_from_slice(&clamps)?;
         places.sort_unstable();
         places.dedup();
@@ -93,31 +93,16 @@ impl Places {
     }
 }
 
-/// The places of all cuts.
-fn cut_places(alloc: Global, facts: &Facts<'_>) -> Result<Vec<Place>, NoMemory>
-    ensures { IfOk result (λ places. HoldsCuts facts.now.statements.now places.items) }
+/// The places of all marks of a kind.
+fn places_of(alloc: Global, facts: &Facts<'_>, kind: MarkKind) -> Result<Vec<Place>, NoMemory>
+    ensures { IfOk result (λ places. HoldsMarks facts.now.statements.now kind places.items) }
 {
     let mut places = Vec::new(alloc);
-    for row in facts.cut_rows() {
-        if !facts.is_of(Kind::Cut, row.value) {
+    for row in facts.marks(kind).rows() {
+        if !facts.is_of(kind.class(), row.value) {
             continue;
         }
-        let lengths = facts.cut_lengths(alloc, row.value)?;
-        add_places(&mut places, row.key, row.value, &lengths)?;
-    }
-    Ok(places)
-}
-
-/// The places of all clamps.
-fn clamp_places(alloc: Global, facts: &Facts<'_>) -> Result<Vec<Place>, NoMemory>
-    ensures { IfOk result (λ places. HoldsClamps facts.now.statements.now places.items) }
-{
-    let mut places = Vec::new(alloc);
-    for row in facts.clamp_rows() {
-        if !facts.is_of(Kind::Clamp, row.value) {
-            continue;
-        }
-        let lengths = facts.clamp_lengths(alloc, row.value)?;
+        let lengths = facts.mark_lengths(alloc, kind, row.value)?;
         add_places(&mut places, row.key, row.value, &lengths)?;
     }
     Ok(places)

@@ -3,20 +3,20 @@
 ghost use Rattle.std.specs.Prelude.{◌≡◌, List, map, nat_lt, IfOk};
 ghost use Rattle.std.specs.List.{list_any};
 ghost use Rattle.cim_words.specs.declared.statement.Statement.{Statement};
-ghost use Rattle.cim_words.specs.declared.known_prop.KnownProp.TheVariants.{K9, K11};
 ghost use Rattle.cim_model.specs.Values.{mm_of};
 ghost use Rattle.cim_profile.specs.Facts.{is_present_and};
 ghost use Rattle.cim_model.specs.Model as model;
-ghost use Rattle.cim_profile.specs.Places.{HoldsPlaces, lies_beyond, lies_wrongly};
+ghost use Rattle.cim_profile.specs.MarkKind.{segment_of};
+ghost use Rattle.cim_profile.specs.Places.{HoldsPlaces, is_misplaced, lies_wrongly};
 ghost use Rattle.cim_model.specs.Profile as spec;
 ghost use Rattle.cim_profile.specs.Subject.{IsSubjectOf};
 
 use crate::facts::Facts;
-use crate::kind::Kind;
+use crate::mark_kind::MarkKind;
 use crate::marks::Places;
 use crate::subject::Subject;
 use cim_model::named_by;
-use cim_words::{Id, KnownProp, Length, NoMemory, Statement};
+use cim_words::{Id, Length, NoMemory, Statement};
 use std::alloc::Global;
 
 /// A cut or a clamp lies within its segment's stated length, and a cut shares its length with no other cut or clamp of its segment.
@@ -30,86 +30,59 @@ pub(crate) fn breaks_place(
     requires places { HoldsPlaces facts.now.statements.now places.now }
     ensures { IfOk result (λ broken. broken ≡ spec.breaks_place facts.now.statements.now subject.now.id.number) }
 {
-    if subject.is_of(Kind::Clamp) && is_clamp_misplaced(alloc, facts, subject)? {
-        return Ok(true);
-    }
-    if subject.is_of(Kind::Cut) {
-        is_cut_misplaced(alloc, facts, places, subject)
-    } else {
-        Ok(false)
-    }
+    Ok(
+        is_misplaced(alloc, facts, places, MarkKind::Clamp, subject)?
+            || is_misplaced(alloc, facts, places, MarkKind::Cut, subject)?,
+    )
 }
 
-fn is_clamp_misplaced(
-    alloc: Global,
-    facts: &Facts<'_>,
-    subject: &Subject<'_>,
-) -> Result<bool, NoMemory>
-    requires { IsSubjectOf facts.now.statements.now subject.now }
-    ensures { IfOk result (λ wrong. wrong ≡ spec.is_clamp_misplaced facts.now.statements.now subject.now.id.number) }
-{
-    let lengths = facts.clamp_lengths(alloc, subject.id)?;
-    for statement in subject.statements {
-        if is_clamp_beyond(alloc, facts, statement, &lengths)? {
-            return Ok(true);
-        }
-    }
-    Ok(false)
-}
-
-/// Whether a clamp with these lengths lies beyond the segment that one of its statements names.
-fn is_clamp_beyond(
-    alloc: Global,
-    facts: &Facts<'_>,
-    statement: &Statement,
-    lengths: &[Length],
-) -> Result<bool, NoMemory>
-    ensures { IfOk result (λ beyond. beyond ≡ is_present_and (lies_beyond facts.now.statements.now (map mm_of lengths.now)) (model.named_by K9 statement.now)) }
-{
-    match named_by(KnownProp::K9, statement) {
-        Some(segment) => Ok(is_beyond(lengths, &facts.stated_lengths(alloc, segment)?)),
-        None => Ok(false),
-    }
-}
-
-fn is_cut_misplaced(
+/// Whether a subject is a mark of a kind and lies wrongly along a segment that it names.
+fn is_misplaced(
     alloc: Global,
     facts: &Facts<'_>,
     places: &Places,
+    kind: MarkKind,
     subject: &Subject<'_>,
 ) -> Result<bool, NoMemory>
     requires subject { IsSubjectOf facts.now.statements.now subject.now }
     requires places { HoldsPlaces facts.now.statements.now places.now }
-    ensures { IfOk result (λ wrong. wrong ≡ spec.is_cut_misplaced facts.now.statements.now subject.now.id.number) }
+    ensures { IfOk result (λ wrong. wrong ≡ is_misplaced facts.now.statements.now kind subject.now.id.number) }
 {
-    let lengths = facts.cut_lengths(alloc, subject.id)?;
+    if !subject.is_of(kind.class()) {
+        return Ok(false);
+    }
+    let lengths = facts.mark_lengths(alloc, kind, subject.id)?;
     for statement in subject.statements {
-        if is_cut_wrong(alloc, facts, places, subject.id, statement, &lengths)? {
+        if is_wrong(alloc, facts, places, kind, subject.id, statement, &lengths)? {
             return Ok(true);
         }
     }
     Ok(false)
 }
 
-/// Whether a cut with these lengths lies beyond the segment that one of its statements names, or shares a place there.
-fn is_cut_wrong(
+/// Whether a mark with these lengths lies beyond the segment that one of its statements names, or, if it is a cut, shares a place there.
+fn is_wrong(
     alloc: Global,
     facts: &Facts<'_>,
     places: &Places,
-    cut: Id,
+    kind: MarkKind,
+    mark: Id,
     statement: &Statement,
     lengths: &[Length],
 ) -> Result<bool, NoMemory>
     requires { HoldsPlaces facts.now.statements.now places.now }
-    ensures { IfOk result (λ wrong. wrong ≡ is_present_and (lies_wrongly facts.now.statements.now cut.number (map mm_of lengths.now)) (model.named_by K11 statement.now)) }
+    ensures { IfOk result (λ wrong. wrong ≡ is_present_and (lies_wrongly facts.now.statements.now kind mark.number (map mm_of lengths.now)) (model.named_by (segment_of kind) statement.now)) }
 {
-    let Some(segment) = named_by(KnownProp::K11, statement) else {
+    let Some(segment) = named_by(kind.segment(), statement) else {
         return Ok(false);
     };
     if is_beyond(lengths, &facts.stated_lengths(alloc, segment)?) {
         return Ok(true);
     }
-    Ok(shares_place(places, cut, segment, lengths))
+    match kind {
+        MarkKind::Cut => Ok(shares_place(places, mark, segment, lengths)),
+        MarkKind::Clamp => Ok(false),
+    }
 }
 
 /// Whether a cut with these lengths shares one with another cut or clamp of a segment.

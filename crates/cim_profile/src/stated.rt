@@ -1,34 +1,71 @@
 //! Tables of what statements say by a property.
 
-ghost use Rattle.std.specs.Prelude.{◌≡◌, ℕ, IfOk, IsTrue, Option, option_map};
+ghost use Rattle.std.specs.Prelude.{◌≡◌, Option, IfOk, IsTrue, map};
+ghost use Rattle.std.specs.List.{filter, filter_map};
 ghost use Rattle.cim_words.specs.declared.class.Class.{Class};
-ghost use Rattle.cim_words.specs.declared.known_prop.KnownProp.TheVariants.{K5};
-ghost use Rattle.cim_model.specs.Values.{length_said, mm_of, number_said};
-ghost use Rattle.cim_profile.specs.Facts.{Holds, HoldsNaming, HoldsTypes};
+ghost use Rattle.cim_words.specs.declared.object.Object.{Object};
+ghost use Rattle.cim_model.specs.Model as model;
+ghost use Rattle.cim_model.specs.Values.{number_said};
+ghost use Rattle.cim_profile.specs.Facts as spec;
 ghost use Rattle.cim_profile.specs.declared.table.Row.{Row};
 
 use crate::table::{Row, Table};
 use cim_model::{class_of, is_by, length_of, named_by, number_of};
-use cim_words::{Class, Id, KnownProp, Length, NoMemory, Statement};
+use cim_words::{Class, Id, KnownProp, Length, NoMemory, Object, Statement};
 use std::alloc::Global;
+
+/// What is read of the objects that statements say.
+pub(crate) trait Reading: Copy {
+    ghost read: { Object → Option Self };
+
+    /// What an object says, if it says such a value.
+    fn of(object: &Object) -> Option<Self>
+        ensures { result ≡ read object.now };
+}
+
+impl Reading for Class {
+    ghost read = { model.class_named };
+
+    fn of(object: &Object) -> Option<Class> {
+        class_of(object)
+    }
+}
+
+impl Reading for u32 {
+    ghost read = { number_said };
+
+    fn of(object: &Object) -> Option<u32> {
+        number_of(object)
+    }
+}
+
+impl Reading for Length {
+    ghost read = { spec.length_read };
+
+    fn of(object: &Object) -> Option<Length> {
+        length_of(object)
+    }
+}
+
+/// The values that a property states, by subject.
+pub(crate) fn values<V: Reading>(
+    alloc: Global,
+    statements: &[Statement],
+    known: KnownProp,
+) -> Result<Table<Option<V>>, NoMemory>
+    ensures { IfOk result (spec.Holds V.read known statements.now) }
+{
+    Table::of(rows(alloc, statements, known)?)
+}
 
 /// The classes that type statements name, by subject. A class that was just named is not kept again, so ordered statements leave few rows a subject.
 pub(crate) fn types(
     alloc: Global,
     statements: &[Statement],
 ) -> Result<Table<Option<Class>>, NoMemory>
-    ensures { IfOk result (HoldsTypes statements.now) }
+    ensures { IfOk result (spec.HoldsTypes statements.now) }
 {
-    let mut rows = Vec::new(alloc);
-    for statement in statements {
-        if !is_by(KnownProp::K1, statement) {
-            continue;
-        }
-        rows.push(Row {
-            key: statement.subject,
-            value: class_of(&statement.object),
-        })?;
-    }
+    let mut rows = rows(alloc, statements, KnownProp::K1)?;
     equal_rows_are_one();
     rows.dedup();
     Table::of(rows)
@@ -39,45 +76,22 @@ fn equal_rows_are_one()
     ensures { (one other : Row (Option Class)) → IsTrue (⟦<Row<Option<Class>> as PartialEq>⟧.eq one other) → one ≡ other }
 {}
 
-/// The sequence numbers that are stated, by terminal.
-pub(crate) fn numbers(
-    alloc: Global,
-    statements: &[Statement],
-) -> Result<Table<Option<u32>>, NoMemory>
-    ensures { IfOk result (Holds (λ (number : Option ℕ). number) number_said K5 statements.now) }
-{
-    let mut rows = Vec::new(alloc);
-    for statement in statements {
-        if !is_by(KnownProp::K5, statement) {
-            continue;
-        }
-        rows.push(Row {
-            key: statement.subject,
-            value: number_of(&statement.object),
-        })?;
-    }
-    Table::of(rows)
-}
-
-/// The lengths that a property states, by subject.
-pub(crate) fn lengths(
+/// A row for each statement by a property, in their order.
+fn rows<V: Reading>(
     alloc: Global,
     statements: &[Statement],
     known: KnownProp,
-) -> Result<Table<Option<Length>>, NoMemory>
-    ensures { IfOk result (Holds (option_map mm_of) length_said known statements.now) }
+) -> Result<Vec<Row<Option<V>>>, NoMemory>
+    ensures { IfOk result (λ rows. rows.items ≡ map (spec.row_read V.read) (filter (model.is_by known) statements.now)) }
 {
-    let mut rows = Vec::new(alloc);
-    for statement in statements {
-        if !is_by(known, statement) {
-            continue;
-        }
-        rows.push(Row {
+    statements
+        .iter()
+        .filter(|statement| is_by(known, statement))
+        .map(|statement| Row {
             key: statement.subject,
-            value: length_of(&statement.object),
-        })?;
-    }
-    Table::of(rows)
+            value: V::of(&statement.object),
+        })
+        .collect(alloc)
 }
 
 /// The subjects that name another by a property, by what they name.
@@ -86,17 +100,20 @@ pub(crate) fn naming(
     statements: &[Statement],
     known: KnownProp,
 ) -> Result<Table<Id>, NoMemory>
-    ensures { IfOk result (HoldsNaming known statements.now) }
+    ensures { IfOk result (spec.HoldsNaming known statements.now) }
 {
-    let mut rows = Vec::new(alloc);
-    for statement in statements {
-        let Some(key) = named_by(known, statement) else {
-            continue;
-        };
-        rows.push(Row {
-            key,
-            value: statement.subject,
-        })?;
-    }
+    let rows = statements
+        .iter()
+        .filter_map(|statement| naming_row(known, statement))
+        .collect(alloc)?;
     Table::of(rows)
+}
+
+fn naming_row(known: KnownProp, statement: &Statement) -> Option<Row<Id>>
+    ensures { result ≡ spec.naming_row known statement.now }
+{
+    Some(Row {
+        key: named_by(known, statement)?,
+        value: statement.subject,
+    })
 }

@@ -1,26 +1,16 @@
-use Rattle.std.proofs.Common.{◌∙◌, List, map, sym, refl, ap}
-use Rattle.std.specs.List.{filter}
-use Rattle.std.proofs.lemmas.List.{take_all}
+use Rattle.std.proofs.Common.{rules, ◌∙◌, ap, map}
+use Rattle.std.proofs.lemmas.Iterator.{items_from_collect, YieldsList-from_map, YieldsList-from_slice}
+use Rattle.std.proofs.lemmas.Iterator.Consumers.{YieldsList-from_filter}
+use Rattle.std.proofs.lemmas.Result.{IfOk-weaker}
 use Rattle.cim_words.specs.declared.identifier.Id.{Id}
-use Rattle.cim_profile.specs.Facts as spec
-use Rattle.cim_model.specs.Model as model
+use Rattle.cim_model.specs.Model.{is_of}
+use Rattle.cim_profile.specs.Facts.{kind_test}
 use Rattle.cim_profile.specs.declared.table.Row.{Row}
-use Rattle.cim_profile.proofs.RowValues.{kept_more, kept_past}
+use Rattle.cim_profile.proofs.RowValues.{names_passing}
 use Rattle.cim_profile.proofs.facts.Facts.those_of.Goals as goal
 
--- what is read past the end of rows
-abbrev past : Row Id
-past = record { key = record { number = 0 }; value = record { number = 0 } }
-
-pub loop-row-preserved-then-not-is_of : goal.loop-row-preserved-then-not-is_of
-loop-row-preserved-then-not-is_of c =
-    kept_past (λ (row : Row Id). row.value.number) (model.is_of c.args.self.now.statements.now (spec.kind_test c.args.kind)) c.args.rows.now c.loop-row.row-index past c.loop-row-test.true (sym c.is_of.ensures ∙ c.if-not-is_of.true) c.loop-row.ids.items c.loop-row.invariant
-
-pub loop-row-preserved : goal.loop-row-preserved
-loop-row-preserved c =
-    rw c.in_ok-push.ensures.items (kept_more (λ (row : Row Id). row.value.number) (model.is_of c.args.self.now.statements.now (spec.kind_test c.args.kind)) c.args.rows.now c.loop-row.row-index past c.loop-row-test.true (sym c.is_of.ensures ∙ c.if-not-is_of.false) c.loop-row.ids.items _ refl c.loop-row.invariant)
-
 pub returns : goal.returns
-returns c =
-    c.loop-row.invariant
-    ∙ ap (λ (rows : List (Row Id)). filter (model.is_of c.args.self.now.statements.now (spec.kind_test c.args.kind)) (map (λ (row : Row Id). row.value.number) rows)) (take_all c.loop-row.row-index c.args.rows.now c.loop-row-test.false)
+returns c k holds =
+    let p = is_of c.args.self.now.statements.now (kind_test c.args.kind) in
+    IfOk-weaker c.collect.result _ _ (λ ids are. ap (map _) are ∙ names_passing p c.at.result.now _ (rw c.at.ensures (holds c.args.named.number)))
+    (items_from_collect _ c.collect.ensures.ran (YieldsList-from_filter _ (λ (id : Id). p id.number) (YieldsList-from_map _ (λ (row : Row Id). row.value) (YieldsList-from_slice c.at.result.now cc) c.map.ensures.closure (λ x r q k. search rules)) c.filter.ensures.closure (λ x r q k. search rules)))
