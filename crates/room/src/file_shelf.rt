@@ -1,6 +1,6 @@
 //! The real files, as a shelf. What they hold is the outside's: this shelf tells no content.
 
-ghost use Rattle.std.specs.Prelude.{◌≡◌, ◌≤◌, [], length, None, OnOk};
+ghost use Rattle.std.specs.Prelude.{◌≡◌, ◌≤◌, ◌<◌, [], length, None, Err, IfErr, IfOk, IfSome, OnOk, IsErrOf};
 
 use grid_out::{Shelf, ShelfFault};
 use std::fs;
@@ -41,18 +41,42 @@ impl<'r, R: Files> Shelf for FileShelf<'r, R> {
 /// How many bytes are asked of a file at once.
 const PIECE: usize = 65_536;
 
-/// Appends the content of a file. After an `Err` a front of it may have been appended.
+/// Reads the content of a file. After an `Err` a front of it may have been appended.
 fn read_file<R: Files>(rt: &R, name: &str, cap: u64, into: &mut Vec<u8>) -> Result<(), ShelfFault>
     requires { into.old.items ≡ [] }
     ensures { OnOk result (length into.new.items ≤ cap) }
 {
-    let Ok(mut file) = fs::open(rt, name) else {
+    read_opened(fs::open(rt, name), cap, into)
+}
+
+/// Reads what was opened, if it was. After an `Err` a front of it may have been appended.
+fn read_opened<F: Read + Drop>(
+    opened: io::Result<F>,
+    cap: u64,
+    into: &mut Vec<u8>,
+) -> Result<(), ShelfFault>
+    requires { into.old.items ≡ [] }
+    ensures within { OnOk result (length into.new.items ≤ cap) }
+    ensures failed { IfErr opened (λ _. result ≡ Err ShelfFault.Failed) }
+    ensures whole { OnOk result (IfOk opened (λ file. IfSome (F.remaining file) (λ bytes. into.new.items ≡ bytes))) }
+{
+    let Ok(mut file) = opened else {
         return Err(ShelfFault::Failed);
     };
+    read_rest(&mut file, cap, into)
+}
+
+/// Appends all that a reader has left, unless this is more than the cap. After an `Err` a front of it may have been appended.
+fn read_rest<R: Read>(from: &mut R, cap: u64, into: &mut Vec<u8>) -> Result<(), ShelfFault>
+    requires { into.old.items ≡ [] }
+    ensures within { OnOk result (length into.new.items ≤ cap) }
+    ensures whole { OnOk result (IfSome (R.remaining from.old) (λ bytes. into.new.items ≡ bytes)) }
+    ensures longer { IsErrOf result ShelfFault.Longer → IfSome (R.remaining from.old) (λ bytes. cap < length bytes) }
+{
     let mut piece = [0u8; PIECE];
     let mut left = cap;
     for _ in 0..u64::MAX {
-        let count = match file.read(&mut piece) {
+        let count = match from.read(&mut piece) {
             Ok(0) => return Ok(()),
             Ok(count) => count,
             Err(error) if error.kind() == io::ErrorKind::Interrupted => continue,

@@ -1,6 +1,7 @@
 //! The standard output, as a sink. What reaches it is the outside's: this sink tells no bytes.
 
-ghost use Rattle.std.specs.Prelude.{None};
+ghost use Rattle.std.specs.Prelude.{None, OnOk};
+ghost use Rattle.std.specs.Io.KnownBytes.{Appends};
 
 use grid_out::{Failed, Sink};
 use std::io::{self, Write};
@@ -33,7 +34,9 @@ impl<'r, R: Print> Sink for OutSink<'r, R> {
 }
 
 /// Writes the whole piece, or fails.
-fn write_whole(out: &mut impl Write, piece: &[u8]) -> Result<(), Failed> {
+fn write_whole<W: Write>(out: &mut W, piece: &[u8]) -> Result<(), Failed>
+    ensures { OnOk result (Appends (W.contents out.old) (W.contents out.new) piece.now) }
+{
     let mut rest = piece;
     for _ in 0..u64::MAX {
         if rest.is_empty() {
