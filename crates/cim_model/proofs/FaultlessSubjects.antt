@@ -1,5 +1,5 @@
 -- What the rules of the profile leave a subject of a model without fault to say.
-use Rattle.std.proofs.Common.{◌≡◌, ℕ, inl, inr, List, [], ◌∷◌, length, Bool, true, false, not, ◌&&◌, ◌||◌, nat_lt, refl, ap, arith, ltb-false}
+use Rattle.std.proofs.Common.{◌≡◌, ℕ, inl, inr, List, [], ◌∷◌, length, Bool, true, false, not, ◌&&◌, ◌||◌, nat_lt, Some, refl, ap, arith, ltb-false}
 use Rattle.std.specs.List.{filter_map, list_any}
 use Rattle.cim_words.specs.Groups.{is_terminal, is_clamp, is_cut, is_known_class}
 use Rattle.cim_words.specs.declared.class.Class.{Class}
@@ -8,12 +8,13 @@ use Rattle.cim_words.specs.declared.known_prop.KnownProp.TheVariants.{K1, K2, K9
 use Rattle.cim_words.specs.declared.object.Object.{Object}
 use Rattle.cim_words.specs.declared.object.Object.TheVariants as object
 use Rattle.cim_words.specs.declared.statement.Statement.{Statement}
-use Rattle.cim_model.specs.Model.{class_named, counts, is_empty, is_of, is_subject, said, types}
+use Rattle.cim_model.specs.Model.{class_named, counts, id_said, is_empty, is_of, is_subject, said, types}
+use Rattle.cim_model.specs.Network.{value_of}
 use Rattle.cim_model.specs.Profile.{IsFaultless, attributes, breaks, breaks_once, breaks_owner, breaks_target, breaks_type, is_one_name, names_target, names_wrongly, references, states_twice}
 use Rattle.cim_model.specs.Stated.{terminals_of}
 use Rattle.cim_model.proofs.ListMembers.{Among, among_any}
 use Rattle.cim_model.proofs.Runs.{not_true, or_right}
-use Rattle.cim_model.proofs.SaidLemmas.{class_subject, said_subject}
+use Rattle.cim_model.proofs.SaidLemmas.{class_subject, said_subject, value_is}
 
 -- a subject breaks no rule
 pub keeps : (m : List Statement) (rule x : ℕ) → IsFaultless m → is_subject m x ≡ true → breaks m rule x ≡ false
@@ -23,14 +24,14 @@ pub passes_unless : (a b : Bool) → (not a && b) ≡ false → b ≡ true → a
 passes_unless true b h is = refl
 passes_unless false b h is = absurd cc
 
-fails_if : (a b : Bool) → (a && b) ≡ false → b ≡ true → a ≡ false
+pub fails_if : (a b : Bool) → (a && b) ≡ false → b ≡ true → a ≡ false
 fails_if true b h is = absurd cc
 fails_if false b h is = refl
 
 pub none_passes : {X : Type 0} (p : X → Bool) (xs : List X) (x : X) → list_any p xs ≡ false → Among xs x → p x ≡ false
 none_passes p xs x none there = not_true (p x) (λ passes. let some : list_any p xs ≡ true = among_any p xs x there passes in cc)
 
-not_failed : (b : Bool) → not b ≡ false → b ≡ true
+pub not_failed : (b : Bool) → not b ≡ false → b ≡ true
 not_failed true h = refl
 not_failed false h = absurd cc
 
@@ -73,10 +74,10 @@ says_one true true c d e f h is = absurd cc
 says_one true false c d e f h is = refl
 says_one false b c d e f h is = absurd cc
 
-pub owner_said : (m : List Statement) (t : ℕ) → IsFaultless m → is_of m is_terminal t ≡ true → (o : Object) × Among (said m t K2) o
+pub owner_said : (m : List Statement) (t : ℕ) → IsFaultless m → is_of m is_terminal t ≡ true → is_empty (said m t K2) ≡ false
 owner_said m t faultless terminal =
     let kept : breaks_owner m t ≡ false = keeps m 3 t faultless (class_subject m is_terminal t terminal) in
-    some_among (said m t K2) (says_one (is_of m is_terminal t) (is_empty (said m t K2)) (is_of m is_clamp t) (is_empty (said m t K9)) (is_of m is_cut t) (is_empty (said m t K11)) kept terminal)
+    says_one (is_of m is_terminal t) (is_empty (said m t K2)) (is_of m is_clamp t) (is_empty (said m t K9)) (is_of m is_cut t) (is_empty (said m t K11)) kept terminal
 
 -- what a reference names is of the right class
 pub target_said : (m : List Statement) (x : ℕ) (k : KnownProp) (o : Object) → IsFaultless m → Among references k → counts m x k ≡ true → Among (said m x k) o → names_target m k o ≡ true
@@ -84,3 +85,16 @@ target_said m x k o faultless listed counted there =
     let kept : breaks_target m x ≡ false = keeps m 4 x faultless (said_subject m x k o there) in
     let right : list_any (λ o. not (names_target m k o)) (said m x k) ≡ false = fails_if (list_any (λ o. not (names_target m k o)) (said m x k)) (counts m x k) (none_passes (names_wrongly m x) references k kept listed) counted in
     not_failed (names_target m k o) (none_passes (λ o. not (names_target m k o)) (said m x k) o right there)
+
+-- what a reference that counts says is its value
+names_id : (m : List Statement) (k : KnownProp) (o : Object) → names_target m k o ≡ true → (y : ℕ) × (id_said o ≡ Some y)
+names_id m k (object.Id id) right = (id.number, refl)
+names_id m k (object.Name text) right = absurd cc
+names_id m k (object.Text text) right = absurd cc
+
+pub named_value : (m : List Statement) (x : ℕ) (k : KnownProp) → IsFaultless m → Among attributes k → Among references k → counts m x k ≡ true → is_empty (said m x k) ≡ false
+    → (y : ℕ) × (value_of id_said m x k ≡ Some y)
+named_value m x k faultless listed refers counted says =
+    let o = some_among (said m x k) says in
+    let id = names_id m k o.0 (target_said m x k o.0 faultless refers counted o.1) in
+    (id.0, value_is id_said m x k o.0 id.0 counted (said_once m x k o.0 faultless listed counted o.1) id.1)

@@ -1,5 +1,6 @@
 -- Terminals of a model without fault, their equipment and their nodes.
-use Rattle.std.proofs.Common.{◌≡◌, ℕ, inl, inr, List, [], ◌∷◌, Bool, true, false, not, ◌&&◌, Some, refl, ap, sym, ◌∙◌}
+use Rattle.std.proofs.Common.{◌≡◌, ℕ, inl, inr, List, [], ◌∷◌, Bool, true, false, not, ◌&&◌, cond, Option, None, Some, is_some, refl, ap, sym, ◌∙◌}
+use Rattle.std.specs.List.{filter_map}
 use Rattle.cim_words.specs.Groups.{is_equipment_class, is_node, is_part, is_terminal}
 use Rattle.cim_words.specs.declared.class.Class.{Class}
 use Rattle.cim_words.specs.declared.known_prop.KnownProp.TheVariants.{K1, K2, K3}
@@ -7,11 +8,11 @@ use Rattle.cim_words.specs.declared.object.Object.{Object}
 use Rattle.cim_words.specs.declared.object.Object.TheVariants as object
 use Rattle.cim_words.specs.declared.statement.Statement.{Statement}
 use Rattle.cim_model.specs.Model.{id_said, is_empty, is_of, is_subject, naming, said, types}
-use Rattle.cim_model.specs.Network.{is_equipment, node_of, owner_of}
+use Rattle.cim_model.specs.Network.{first, is_equipment, node_of, owner_of}
 use Rattle.cim_model.specs.Profile.{IsFaultless, names_target}
 use Rattle.cim_model.specs.Stated.{terminals_at, terminals_of}
 use Rattle.std.proofs.lemmas.Option.{same_Some}
-use Rattle.cim_model.proofs.FaultlessSubjects.{among_some, one_class, owner_said, said_once, some_among, target_said}
+use Rattle.cim_model.proofs.FaultlessSubjects.{among_some, named_value, one_class, owner_said, said_once, some_among, target_said}
 use Rattle.cim_model.proofs.ListMembers.{Among, among_filter, filter_among, filter_passes}
 use Rattle.cim_model.proofs.Runs.{or_right}
 use Rattle.cim_model.proofs.SaidLemmas.{IsStated, both, naming_says, said_subject, says_naming, value_is, value_stated}
@@ -52,20 +53,19 @@ owner_equipment m y t faultless owned =
 pub owner_class : (m : List Statement) (y t : ℕ) → IsFaultless m → owner_of m t ≡ Some y → (c : Class) × (types m y ≡ c ∷ [])
 owner_class m y t faultless owned = one_class m y t faultless (owner_subject m y t faultless owned) (owned_listed m y t owned)
 
--- each terminal has an owner
-target_id : (m : List Statement) (o : Object) → names_target m K2 o ≡ true → (y : ℕ) × (id_said o ≡ Some y)
-target_id m (object.Id id) right = (id.number, refl)
-target_id m (object.Name text) right = absurd cc
-target_id m (object.Text text) right = absurd cc
-
+-- each terminal has an owner, and nothing else has one
 pub terminal_owned : (m : List Statement) (t : ℕ) → IsFaultless m → is_of m is_terminal t ≡ true → (y : ℕ) × (owner_of m t ≡ Some y)
-terminal_owned m t faultless terminal =
-    let names = owner_said m t faultless terminal in
-    let id = target_id m names.0 (target_said m t K2 names.0 faultless (inl refl) terminal names.1) in
-    (id.0, value_is id_said m t K2 names.0 id.0 terminal (said_once m t K2 names.0 faultless (inl refl) terminal names.1) id.1)
+terminal_owned m t faultless terminal = named_value m t K2 faultless (inl refl) (inl refl) terminal (owner_said m t faultless terminal)
 
 pub owned_terminal : (m : List Statement) (y t : ℕ) → owner_of m t ≡ Some y → is_of m is_terminal t ≡ true
 owned_terminal m y t owned = let stated : IsStated id_said m t K2 y = value_stated id_said m t K2 y owned in stated.counts
+
+owner_if : (m : List Statement) (t : ℕ) (b : Bool) → is_of m is_terminal t ≡ b → IsFaultless m → is_some (owner_of m t) ≡ b
+owner_if m t true is faultless = ap (λ (o : Option ℕ). is_some o) (terminal_owned m t faultless is).1
+owner_if m t false is faultless = ap (λ (b : Bool). is_some (cond b (first (filter_map id_said (said m t K2))) None)) is
+
+pub owner_or_none : (m : List Statement) (t : ℕ) → IsFaultless m → is_some (owner_of m t) ≡ is_of m is_terminal t
+owner_or_none m t faultless = owner_if m t (is_of m is_terminal t) refl faultless
 
 -- the node of a terminal is a node
 target_node : (m : List Statement) (o : Object) (n : ℕ) → names_target m K3 o ≡ true → id_said o ≡ Some n → is_of m is_node n ≡ true

@@ -2,10 +2,16 @@ pub mod Classes
 pub mod ContainsCases
 pub mod FaultlessSubjects
 pub mod FaultlessTerminals
+pub mod LengthBounds
 pub mod ListMembers
+pub mod MarkLists
+pub mod MarkPlaces
+pub mod Marks
 pub mod OneTrace
+pub mod Pairs
 pub mod Runs
 pub mod SaidLemmas
+pub mod Standing
 pub mod SubjectLists
 pub mod TerminalSides
 pub mod WalkInduction

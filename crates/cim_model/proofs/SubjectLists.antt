@@ -1,10 +1,11 @@
 -- The list of a model's subjects.
-use Rattle.std.proofs.Common.{◌≡◌, ℕ, List, [], ◌∷◌, Bool, true, false, ◌||◌, ◌==◌, nat_eq, cond, refl, sym, ◌∙◌, arith}
+use Rattle.std.proofs.Common.{◌≡◌, ℕ, List, [], ◌∷◌, Bool, true, false, ◌||◌, ◌==◌, nat_eq, cond, Contains, refl, sym, ◌∙◌, subst, arith}
 use Rattle.std.specs.List.{AllByRecursion, IsDistinct, list_any}
 use Rattle.std.proofs.lemmas.Bool.Decides.{nat_tests}
 use Rattle.cim_words.specs.declared.statement.Statement.{Statement}
 use Rattle.cim_model.specs.Model.{is_subject, subjects}
-use Rattle.cim_model.proofs.Runs.{neither, same_number}
+use Rattle.cim_model.proofs.ListMembers.{Among, among_any, among_contained, any_among, contains_among}
+use Rattle.cim_model.proofs.Runs.{neither, number_itself, same_number}
 
 -- an identifier is among the subjects exactly where a statement is about it
 eq_sym : (x y : ℕ) → nat_eq x y ≡ (y == x)
@@ -25,6 +26,17 @@ among_one x y rest false is among = rw (eq_sym x y, among) refl
 pub among_subjects : (x : ℕ) (m : List Statement) → list_any (nat_eq x) (subjects m) ≡ is_subject m x
 among_subjects x [] = refl
 among_subjects x (s ∷ rest) = among_one x s.subject.number rest (is_subject rest s.subject.number) refl (among_subjects x rest)
+
+same_at : (x y : ℕ) → nat_eq x y ≡ true → x ≡ y
+same_at x y h = grind (arith, nat_tests)
+
+pub listed_subject : (m : List Statement) (x : ℕ) → Contains (subjects m) x → is_subject m x ≡ true
+listed_subject m x there = sym (among_subjects x m) ∙ among_any (nat_eq x) (subjects m) x (among_contained (subjects m) x there) (eq_sym x x ∙ number_itself x)
+
+pub subject_listed : (m : List Statement) (x : ℕ) → is_subject m x ≡ true → Contains (subjects m) x
+subject_listed m x subject =
+    let y = any_among (nat_eq x) (subjects m) (among_subjects x m ∙ subject) in
+    contains_among (subjects m) x (subst (Among (subjects m)) (sym (same_at x y.0 y.2)) y.1)
 
 -- each subject is listed once
 none_is : (xs : List ℕ) (y : ℕ) → list_any (nat_eq y) xs ≡ false → AllByRecursion (λ x. nat_eq y x ≡ false) xs

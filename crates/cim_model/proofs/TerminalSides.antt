@@ -1,17 +1,19 @@
 -- Ordering the terminals of equipment by side loses none of them.
 use Rattle.std.proofs.Common.{◌≡◌, ℕ, ◌⊎◌, inl, inr, List, [], ◌∷◌, ◌++◌, length, Bool, true, false, not, ◌&&◌, ◌||◌, ◌==◌, cond, Option, Some, None, is_some, refl, ap, sym, ◌∙◌, subst, arith}
 use Rattle.std.specs.List.{list_any}
-use Rattle.cim_words.specs.Groups.{has_two_ends, is_clamp, is_cut, is_segment, is_single, is_switch, is_terminal}
+use Rattle.cim_words.specs.Groups.{has_two_ends, is_cut, is_segment, is_single, is_switch, is_terminal}
+use Rattle.cim_words.specs.declared.class.Class.{Class}
+use Rattle.cim_words.specs.declared.class.Class.TheVariants as class
 use Rattle.cim_words.specs.declared.known_prop.KnownProp.TheVariants.{K2}
 use Rattle.cim_words.specs.declared.statement.Statement.{Statement}
 use Rattle.cim_model.specs.Model.{is_empty, is_of, is_subject, naming, types}
-use Rattle.cim_model.specs.Network.{IsUnmarked, by_side, first, has_sides, is_mark, is_some_number, number_of, owner_of, terminals_by_side, with_number}
+use Rattle.cim_model.specs.Network.{by_side, first, has_sides, is_some_number, number_of, owner_of, terminals_by_side, with_number}
 use Rattle.cim_model.specs.Profile.{IsFaultless, are_misnumbered, are_one_and_two, breaks_numbers, breaks_terminals, is_one, needs_no_numbers}
 use Rattle.cim_model.specs.Stated.{clamps_of, cuts_of, numbers_of, terminals_of}
-use Rattle.cim_model.proofs.FaultlessSubjects.{keeps, none_passes}
+use Rattle.cim_model.proofs.FaultlessSubjects.{keeps}
 use Rattle.cim_model.proofs.FaultlessTerminals.{listed_owned, owned_listed, owner_subject}
 use Rattle.cim_model.proofs.ListMembers.{Among, among_any, among_either, among_filter, among_left, among_right, any_among, filter_among, filter_passes}
-use Rattle.cim_model.proofs.Runs.{either, number_itself, or_left, same_number}
+use Rattle.cim_model.proofs.Runs.{either, number_itself, or_left, or_right, same_number}
 use Rattle.cim_model.proofs.SaidLemmas.{both_left, both_right}
 
 -- the order adds nothing
@@ -120,21 +122,29 @@ sides_of_two : (m : List Statement) (x t : ℕ) (ts : List ℕ) → (a : ℕ) ×
 sides_of_two m x t ts two =
     subst (λ (those : List ℕ). ((u : ℕ) → Among those u → is_of m is_terminal u ≡ true) → are_misnumbered m x those ≡ false → Among those t → Among (by_side m those) t) (sym two.2) (two_sides m x t two.0 two.1)
 
--- what has sides in a model without cuts and clamps is a segment
-of_segment : (a b c : Bool) → (a || b) ≡ true → (b || c) ≡ false → a ≡ true
-of_segment true b c h none = refl
-of_segment false true c h none = absurd cc
-of_segment false false c h none = absurd cc
+-- what has sides, a segment or a cut, has two ends
+cut_switch : (c : Class) → is_cut c ≡ true → is_switch c ≡ true
+cut_switch class.Cut h = refl
+cut_switch _ h = absurd cc
 
-segment_with_sides : (m : List Statement) (x : ℕ) → IsUnmarked m → is_of m has_sides x ≡ true → is_of m is_segment x ≡ true
-segment_with_sides m x unmarked h =
-    let c = any_among has_sides (types m x) h in
-    among_any is_segment (types m x) c.0 c.1 (of_segment (is_segment c.0) (is_cut c.0) (is_clamp c.0) c.2 (none_passes is_mark (types m x) c.0 (unmarked x) c.1))
+ends_of_sides : (c : Class) → has_sides c ≡ true → has_two_ends c ≡ true
+ends_of_sides c h = elim (either (is_segment c) (is_cut c) h) [
+  | inl segment ↦ or_left (is_segment c) (is_switch c) segment
+  | inr cut ↦ or_right (is_segment c) (is_switch c) (cut_switch c cut)
+]
 
-two_ends : (m : List Statement) (x : ℕ) → is_of m is_segment x ≡ true → is_of m has_two_ends x ≡ true
+two_ends : (m : List Statement) (x : ℕ) → is_of m has_sides x ≡ true → is_of m has_two_ends x ≡ true
 two_ends m x h =
-    let c = any_among is_segment (types m x) h in
-    among_any has_two_ends (types m x) c.0 c.1 (or_left (is_segment c.0) (is_switch c.0) c.2)
+    let c = any_among has_sides (types m x) h in
+    among_any has_two_ends (types m x) c.0 c.1 (ends_of_sides c.0 c.2)
+
+segment_or_cut : (m : List Statement) (x : ℕ) → is_of m has_sides x ≡ true → (is_of m is_segment x || is_of m is_cut x) ≡ true
+segment_or_cut m x h =
+    let c = any_among has_sides (types m x) h in
+    elim (either (is_segment c.0) (is_cut c.0) c.2) [
+      | inl segment ↦ or_left (is_of m is_segment x) (is_of m is_cut x) (among_any is_segment (types m x) c.0 c.1 segment)
+      | inr cut ↦ or_right (is_of m is_segment x) (is_of m is_cut x) (among_any is_cut (types m x) c.0 c.1 cut)
+    ]
 
 has_two : (a b c d e : Bool) → (a && not b || c && not d || not (a || c) && e) ≡ false → a ≡ true → b ≡ true
 has_two true true c d e h is = refl
@@ -145,24 +155,24 @@ right_second : (a b : Bool) → (a && b) ≡ false → a ≡ true → b ≡ fals
 right_second true b h is = h
 right_second false b h is = absurd cc
 
-segment_sides : (m : List Statement) (x t : ℕ) → IsFaultless m → is_subject m x ≡ true → is_of m is_segment x ≡ true → Among (terminals_of m x) t → Among (by_side m (terminals_of m x)) t
-segment_sides m x t faultless subject segment there =
+sided : (m : List Statement) (x t : ℕ) → IsFaultless m → is_subject m x ≡ true → is_of m has_sides x ≡ true → Among (terminals_of m x) t → Among (by_side m (terminals_of m x)) t
+sided m x t faultless subject sides there =
     let ends : breaks_terminals m x ≡ false = keeps m 5 x faultless subject in
     let numbers : breaks_numbers m x ≡ false = keeps m 6 x faultless subject in
     let count = length (terminals_of m x) in
-    let two : count ≡ 2 = same_number count 2 (has_two (is_of m has_two_ends x) (count == 2) (is_of m is_single x) (count == 1) _ ends (two_ends m x segment)) in
+    let two : count ≡ 2 = same_number count 2 (has_two (is_of m has_two_ends x) (count == 2) (is_of m is_single x) (count == 1) _ ends (two_ends m x sides)) in
     sides_of_two m x t (terminals_of m x) (two_of (terminals_of m x) two) (λ u has. filter_passes (is_of m is_terminal) (naming m K2 x) u has)
-    (right_second (is_of m is_segment x || is_of m is_cut x) (are_misnumbered m x (terminals_of m x)) numbers (or_left (is_of m is_segment x) (is_of m is_cut x) segment))
+    (right_second (is_of m is_segment x || is_of m is_cut x) (are_misnumbered m x (terminals_of m x)) numbers (segment_or_cut m x sides))
     there
 
-listed_if : (m : List Statement) (x t : ℕ) (b : Bool) → is_of m has_sides x ≡ b → IsFaultless m → IsUnmarked m → is_subject m x ≡ true → Among (terminals_of m x) t
+listed_if : (m : List Statement) (x t : ℕ) (b : Bool) → is_of m has_sides x ≡ b → IsFaultless m → is_subject m x ≡ true → Among (terminals_of m x) t
     → Among (cond b (by_side m (terminals_of m x)) (terminals_of m x)) t
-listed_if m x t true is faultless unmarked subject there = segment_sides m x t faultless subject (segment_with_sides m x unmarked is) there
-listed_if m x t false is faultless unmarked subject there = there
+listed_if m x t true is faultless subject there = sided m x t faultless subject is there
+listed_if m x t false is faultless subject there = there
 
 -- so the terminals of equipment by side are those that it owns
-pub owned_side : (m : List Statement) (y t : ℕ) → IsFaultless m → IsUnmarked m → owner_of m t ≡ Some y → Among (terminals_by_side m y) t
-owned_side m y t faultless unmarked owned = listed_if m y t (is_of m has_sides y) refl faultless unmarked (owner_subject m y t faultless owned) (owned_listed m y t owned)
+pub owned_side : (m : List Statement) (y t : ℕ) → IsFaultless m → owner_of m t ≡ Some y → Among (terminals_by_side m y) t
+owned_side m y t faultless owned = listed_if m y t (is_of m has_sides y) refl faultless (owner_subject m y t faultless owned) (owned_listed m y t owned)
 
 pub side_owned : (m : List Statement) (y t : ℕ) → IsFaultless m → Among (terminals_by_side m y) t → owner_of m t ≡ Some y
 side_owned m y t faultless there = listed_owned m y t faultless (side_listed m y t there)

@@ -1,4 +1,5 @@
 pub mod Links
+pub mod Marks
 pub mod Model
 pub mod Network
 pub mod Phases

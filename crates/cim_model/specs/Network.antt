@@ -2,10 +2,10 @@
 -- (IEC 61970-301: a Terminal joins one piece of ConductingEquipment to a ConnectivityNode).
 use Rattle.std.specs.Prelude.{ℕ, ◌≡◌, List, [], ◌∷◌, ◌++◌, map, Bool, false, not, ◌&&◌, ◌||◌, ◌==◌, if◌then◌else◌, Option, Some, None, is_some, unwrap_or}
 use Rattle.std.specs.List.{filter, filter_map, list_any}
-use Rattle.cim_words.specs.Groups.{is_terminal, is_node, is_segment, is_cut, is_clamp, is_equipment_class}
+use Rattle.cim_words.specs.Groups.{is_terminal, is_node, is_segment, is_cut, is_equipment_class}
 use Rattle.cim_words.specs.declared.class.Class.{Class}
 use Rattle.cim_words.specs.declared.known_prop.KnownProp.{KnownProp}
-use Rattle.cim_words.specs.declared.known_prop.KnownProp.TheVariants.{K2, K3, K4, K5, K6, K7, K8, K13, K14, K15, K16, K17, K19}
+use Rattle.cim_words.specs.declared.known_prop.KnownProp.TheVariants.{K2, K3, K4, K5, K6, K7, K8, K9, K10, K11, K12, K13, K14, K15, K16, K17, K19}
 use Rattle.cim_words.specs.declared.object.Object.{Object}
 use Rattle.cim_words.specs.declared.phases.PhaseSet.{PhaseSet}
 use Rattle.cim_words.specs.declared.statement.Statement.{Statement}
@@ -118,12 +118,12 @@ phases_of m t = if is_of m is_terminal t then unwrap_or (stated_phases m t) (own
 abbrev pub segment_phases : List Statement → ℕ → PhaseSet
 segment_phases m x = union_or (part_phases m x) (union (map (phases_of m) (terminals_of m x)))
 
--- a model without cuts and clamps
-abbrev pub is_mark : Class → Bool
-is_mark c = is_cut c || is_clamp c
+-- the segment of a cut or a clamp, and how far it is from the segment's terminal 1, in millimetres: as stated, else at it
+abbrev pub segment_of : List Statement → ℕ → Option ℕ
+segment_of m y = or_else (value_of id_said m y K9) (value_of id_said m y K11)
 
-abbrev pub IsUnmarked : List Statement → Type 0
-IsUnmarked m = (x : ℕ) → is_of m is_mark x ≡ false
+abbrev pub mark_length : List Statement → ℕ → ℕ
+mark_length m y = unwrap_or (or_else (value_of length_said m y K10) (value_of length_said m y K12)) 0
 
 -- whether a class is there and passes a test
 abbrev pub is_class : (Class → Bool) → Option Class → Bool

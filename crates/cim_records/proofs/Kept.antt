@@ -1,7 +1,6 @@
--- Walking over the entries of a table, and keeping the keys of those that pass a test.
-use Rattle.std.proofs.Common.{rules, ◌≡◌, ℕ, List, [], ◌∷◌, ◌++◌, map, Bool, true, false, not, ◌||◌, ◌&&◌, ◌==◌, Option, Some, None, refl, ap, sym, ◌∙◌, append_assoc}
-use Rattle.std.specs.Prelude.{if◌then◌else◌, is_some, unwrap_or}
-use Rattle.std.specs.List.{filter, list_any}
+-- The equipment and the nodes among the entries of a table.
+use Rattle.std.proofs.Common.{◌≡◌, ℕ, List, [], map, Bool, true, false, not, ◌||◌, ◌&&◌, Option, Some, None, refl, ap, sym, ◌∙◌}
+use Rattle.std.specs.Prelude.{is_some, unwrap_or}
 use Rattle.cim_words.specs.Groups.{is_equipment_class, is_node}
 use Rattle.cim_words.specs.declared.identifier.Id.{Id}
 use Rattle.cim_words.specs.declared.statement.Statement.{Statement}
@@ -11,7 +10,6 @@ use Rattle.cim_model.specs.Network.{is_class}
 use Rattle.cim_model.specs.Profile.{IsFaultless}
 use Rattle.cim_model.specs.Stated.{terminals_of}
 use Rattle.cim_model.specs.Values.{as_id}
-use Rattle.cim_model.proofs.Runs.{number_itself, or_left, or_right}
 use Rattle.cim_records.specs.Found.{found, known_of, members}
 use Rattle.cim_records.specs.Subject.{record_in, records, subject_in}
 use Rattle.cim_records.specs.Tables.{HoldsTerminals}
@@ -20,51 +18,20 @@ use Rattle.cim_records.proofs.Known.{is_known, subject_there}
 use Rattle.cim_model.proofs.Classes.{one_class}
 use Rattle.cim_model.proofs.SubjectLists.{among_subjects}
 use Rattle.cim_records.proofs.Sides.{empty_by_side}
-
-abbrev pub Entry : Type 0
-Entry = Id × Subject
+use Rattle.cim_records.proofs.Taken.{Entry, taken, taken_same}
 
 -- the keys of the entries that pass
+abbrev pub key : Entry → Id
+key e = e.0
+
 abbrev pub kept : (Entry → Bool) → List Entry → List Id
-kept test entries = map (λ (e : Entry). e.0) (filter test entries)
-
-kept_one : (test : Entry → Bool) (e : Entry) (rest : List Entry) (b : Bool) → test e ≡ b → kept test (e ∷ rest) ≡ (if b then e.0 ∷ kept test rest else kept test rest)
-kept_one test e rest true is = rw is refl
-kept_one test e rest false is = rw is refl
-
-pub kept_more : (test : Entry → Bool) (e : Entry) (rest left : List Entry) (ids : List Id) (all : List Id) → test e ≡ true → left ≡ e ∷ rest → ids ++ kept test left ≡ all → (ids ++ e.0 ∷ []) ++ kept test rest ≡ all
-kept_more test e rest left ids all is next so_far =
-    append_assoc ids (e.0 ∷ []) (kept test rest) ∙ ap (λ (those : List Id). ids ++ those) (sym (ap (kept test) next ∙ kept_one test e rest true is)) ∙ so_far
-
-pub kept_past : (test : Entry → Bool) (e : Entry) (rest left : List Entry) (ids : List Id) (all : List Id) → test e ≡ false → left ≡ e ∷ rest → ids ++ kept test left ≡ all → ids ++ kept test rest ≡ all
-kept_past test e rest left ids all is next so_far = ap (λ (those : List Id). ids ++ those) (sym (ap (kept test) next ∙ kept_one test e rest false is)) ∙ so_far
-
-append_none : (ids : List Id) → ids ++ [] ≡ ids
-append_none ids = search rules
-
-pub kept_all : (test : Entry → Bool) (left : List Entry) (ids : List Id) (all : List Id) → left ≡ [] → ids ++ kept test left ≡ all → ids ≡ all
-kept_all test left ids all none so_far = sym (append_none ids) ∙ ap (λ (rest : List Entry). ids ++ kept test rest) (sym none) ∙ so_far
-
--- ---- the keys are those of some subjects
-
-same_one : (x : ℕ) (test : Entry → Bool) (e : Entry) (rest : List Entry) (more : List ℕ) (a b : Bool) → test e ≡ a → a ≡ b → e.0 ≡ as_id x → kept test rest ≡ map as_id more
-    → kept test (e ∷ rest) ≡ map as_id (if b then x ∷ more else more)
-same_one x test e rest more true true is same key so = rw is (rw (key, so) refl)
-same_one x test e rest more false false is same key so = rw is so
-same_one x test e rest more true false is same key so = absurd cc
-same_one x test e rest more false true is same key so = absurd cc
-
-kept_same : (test : Entry → Bool) (p : ℕ → Bool) (m : List Statement) (xs : List ℕ) → ((x : ℕ) → list_any (λ (k : ℕ). x == k) xs ≡ true → test (record_in m x) ≡ p x) → kept test (map (record_in m) xs) ≡ map as_id (filter p xs)
-kept_same test p m [] same = refl
-kept_same test p m (x ∷ xs) same =
-    same_one x test (record_in m x) (map (record_in m) xs) (filter p xs) (test (record_in m x)) (p x) refl (same x (or_left (x == x) _ (number_itself x))) refl
-    (kept_same test p m xs (λ y h. same y (or_right (y == x) _ h)))
+kept = taken key
 
 abbrev pub node_test : Entry → Bool
 node_test e = is_class is_node e.1.class
 
 pub nodes_kept : (m : List Statement) → IsFaultless m → kept node_test (records m) ≡ map as_id (network.nodes m)
-nodes_kept m faultless = kept_same node_test (is_of m is_node) m (subjects m) (λ x h. sym (one_class is_node m x faultless))
+nodes_kept m faultless = taken_same key as_id node_test (is_of m is_node) m (subjects m) (λ x h. sym (one_class is_node m x faultless)) (λ x. refl)
 
 abbrev pub equipment_test : List (Id × List Id) → Entry → Bool
 equipment_test groups e = is_class is_equipment_class e.1.class || not (is_empty (members groups e.0.number))
@@ -76,7 +43,7 @@ equipment_told m groups faultless holds x is =
 
 pub equipment_kept : (m : List Statement) (groups : List (Id × List Id)) → IsFaultless m → HoldsTerminals m groups → kept (equipment_test groups) (records m) ≡ map as_id (network.equipment m)
 equipment_kept m groups faultless holds =
-    kept_same (equipment_test groups) (network.is_equipment m) m (subjects m) (λ x h. equipment_told m groups faultless holds x (sym (among_subjects x m) ∙ h))
+    taken_same key as_id (equipment_test groups) (network.is_equipment m) m (subjects m) (λ x h. equipment_told m groups faultless holds x (sym (among_subjects x m) ∙ h)) (λ x. refl)
 
 pub equipment_passes : (groups : List (Id × List Id)) (e : Entry) (terminals : List Id) (b : Bool) → terminals ≡ members groups e.0.number → (is_class is_equipment_class e.1.class || not (is_empty terminals)) ≡ b → equipment_test groups e ≡ b
 equipment_passes groups e terminals b is h = ap (λ (list : List Id). is_class is_equipment_class e.1.class || not (is_empty list)) (sym is) ∙ h

@@ -93,6 +93,16 @@ module _ (m : List Statement) (faultless : IsFaultless m) (x : ℕ) where
       ap (λ (s : Subject). s.phase) (known_is m x)
       ∙ rw (← value_is kind_said m x 12 faultless (omega arith), ← value_is kind_said m x 14 faultless (omega arith), ← value_is kind_said m x 17 faultless (omega arith)) refl
 
+  pub segment_known : known.segment ≡ option_map as_id (network.segment_of m x)
+  segment_known =
+      ap (λ (s : Subject). s.segment) (known_is m x)
+      ∙ rw (← value_is id_said m x 7 faultless (omega arith), ← value_is id_said m x 9 faultless (omega arith)) refl
+
+  pub mark_length_known : known.mark_length ≡ as_length (network.mark_length m x)
+  mark_length_known =
+      ap (λ (s : Subject). s.mark_length) (known_is m x)
+      ∙ rw (← value_is length_said m x 8 faultless (omega arith), ← value_is length_said m x 10 faultless (omega arith)) refl
+
   number_again : (o : Option ℕ) → option_map number_of_id (option_map as_id o) ≡ o
   number_again None = refl
   number_again (Some n) = refl

@@ -4,7 +4,9 @@ pub mod Known
 pub mod Reading
 pub mod Phases
 pub mod Updates
+pub mod Taken
 pub mod Kept
+pub mod Marked
 pub mod Sides
 pub mod Stated
 pub mod Gathers

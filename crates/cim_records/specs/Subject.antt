@@ -5,13 +5,14 @@ use Rattle.cim_words.specs.Groups.{counts_on, is_cut}
 use Rattle.cim_words.specs.declared.class.Class.{Class}
 use Rattle.cim_words.specs.declared.identifier.Id.{Id}
 use Rattle.cim_words.specs.declared.known_prop.KnownProp.{KnownProp}
-use Rattle.cim_words.specs.declared.known_prop.KnownProp.TheVariants.{K1, K2, K3, K4, K5, K6, K7, K8, K13, K14, K15, K16, K17, K19}
+use Rattle.cim_words.specs.declared.known_prop.KnownProp.TheVariants.{K1, K2, K3, K4, K5, K6, K7, K8, K9, K10, K11, K12, K13, K14, K15, K16, K17, K19}
 use Rattle.cim_words.specs.declared.object.Object.{Object}
 use Rattle.cim_words.specs.declared.phases.PhaseSet.{PhaseSet}
 use Rattle.cim_words.specs.declared.statement.Statement.{Statement}
 use Rattle.cim_model.specs.Model.{about, class_named, id_said, said_in, subjects}
 use Rattle.cim_model.specs.Network.{first, is_class, or_else}
 use Rattle.cim_model.specs.Values.{as_id, as_length, number_said, length_said, truth_said, code_said, kind_said}
+use Rattle.segment_cuts.specs.declared.mark.Mark.{Mark}
 use Rattle.cim_records.specs.declared.subject.Subject.{Subject}
 
 -- what an object says, where there is one
@@ -43,6 +44,14 @@ abbrev pub phase_in : Option Class → List Statement → Option PhaseSet
 phase_in class statements =
     or_else (value_in kind_said class statements K14) (or_else (value_in kind_said class statements K16) (value_in kind_said class statements K19))
 
+-- the segment of a clamp or a cut, and how far it is from the segment's terminal 1
+abbrev pub segment_in : Option Class → List Statement → Option ℕ
+segment_in class statements = or_else (value_in id_said class statements K9) (value_in id_said class statements K11)
+
+abbrev pub mark_length_in : Option Class → List Statement → ℕ
+mark_length_in class statements =
+    unwrap_or (or_else (value_in length_said class statements K10) (value_in length_said class statements K12)) 0
+
 -- what statements say of their subject, whose class is known
 abbrev pub subject_of : Option Class → List Statement → Subject
 subject_of class statements = record {
@@ -55,11 +64,17 @@ subject_of class statements = record {
   is_open = open_in class statements;
   equipment = option_map as_id (equipment_in class statements);
   phase = phase_in class statements;
+  segment = option_map as_id (segment_in class statements);
+  mark_length = as_length (mark_length_in class statements);
 }
 
 -- what they say of it, its class among that
 abbrev pub subject_in : List Statement → Subject
 subject_in statements = subject_of (class_said statements) statements
+
+-- a subject as a mark of its segment; a cut divides it
+abbrev pub mark_of : Id → Subject → Mark
+mark_of id subject = record { id = id; length = subject.mark_length; divides = is_class is_cut subject.class }
 
 -- each subject of a model with what is said of it
 abbrev pub record_in : List Statement → ℕ → Id × Subject

@@ -1,5 +1,6 @@
 -- What the tables of a model without fault hold.
 use Rattle.std.specs.Prelude.{ℕ, ◌≡◌, List, map, Option, Some, None, if◌then◌else◌}
+use Rattle.cim_model.specs.Marks.{marks_of}
 use Rattle.cim_model.specs.Model.{is_empty}
 use Rattle.cim_model.specs.Network.{part_phases, terminals_by_side}
 use Rattle.cim_model.specs.Phases.{union}
@@ -8,6 +9,7 @@ use Rattle.cim_model.specs.Values.{as_id}
 use Rattle.cim_words.specs.declared.identifier.Id.{Id}
 use Rattle.cim_words.specs.declared.phases.PhaseSet.{PhaseSet}
 use Rattle.cim_words.specs.declared.statement.Statement.{Statement}
+use Rattle.segment_cuts.specs.declared.mark.Mark.{Mark}
 use Rattle.cim_records.specs.Found.{found, members}
 
 -- the union of some sets, where there are any
@@ -25,3 +27,7 @@ HoldsNodeTerminals m groups = (x : ℕ) → members groups x ≡ map as_id (term
 -- under each piece of equipment are the phases that its phase objects state
 abbrev pub HoldsPhases : List Statement → List (Id × PhaseSet) → Type 0
 HoldsPhases m sets = (x : ℕ) → found sets x ≡ union_of (part_phases m x)
+
+-- under each segment are its cuts and clamps
+abbrev pub HoldsMarks : List Statement → List (Id × List Mark) → Type 0
+HoldsMarks m groups = (x : ℕ) → members groups x ≡ marks_of m x

@@ -58,7 +58,7 @@ fn leads(terminal: &Subject, subjects: &Subjects, owner: Id) -> bool
 
 /// Gathers subjects of the statements under what they name.
 pub(crate) fn gather(
-    groups: &mut Groups,
+    groups: &mut Groups<Id>,
     gathering: Gathering,
     subjects: &Subjects,
     statements: &[Statement],

@@ -1,4 +1,4 @@
-//! Identifiers that are gathered under others.
+//! What is gathered under identifiers.
 
 ghost use Rattle.std.specs.Prelude.{◌≡◌, ◌==◌, ◌++◌, ◌∷◌, [], ℕ, OnOk, if◌then◌else◌};
 ghost use Rattle.cim_records.specs.Found.{members};
@@ -8,24 +8,24 @@ use indexmap::IndexMap;
 use std::alloc::Global;
 use std::marker::Model;
 
-/// Lists of identifiers, each found under an identifier.
+/// Lists of members, each found under an identifier.
 #[derive(Drop)]
-pub(crate) struct Groups {
-    lists: IndexMap<Id, Listed<Id>>,
+pub(crate) struct Groups<T> {
+    lists: IndexMap<Id, Listed<T>>,
 }
 
-impl Model for Groups {
+impl<T> Model for Groups<T> {
     ghost use Rattle.std.specs.Prelude.{List};
     ghost use Rattle.cim_words.specs.declared.identifier.Id.{Id};
 
-    ghost Value = { List (Id × List Id) };
+    ghost Value = { List (Id × List T) };
 
     ghost view = { λ groups. groups.lists.entries };
 }
 
-impl Groups {
+impl<T: Copy> Groups<T> {
     /// No list.
-    pub(crate) fn empty(alloc: Global) -> Groups
+    pub(crate) fn empty(alloc: Global) -> Self
         ensures { result ≡ [] }
     {
         Groups {
@@ -34,7 +34,7 @@ impl Groups {
     }
 
     /// Puts a member behind the others of its list.
-    pub(crate) fn add(&mut self, key: Id, member: Id) -> Result<(), NoMemory>
+    pub(crate) fn add(&mut self, key: Id, member: T) -> Result<(), NoMemory>
         ensures { OnOk result ((x : ℕ) → members self.new x ≡ (if x == key.number then members self.old x ++ member ∷ [] else members self.old x)) }
     {
         if let Some(list) = self.lists.get_mut(&key) {
@@ -47,7 +47,7 @@ impl Groups {
     }
 
     /// The members of a list, in the order in which they were added.
-    pub(crate) fn members(&self, key: Id) -> &[Id]
+    pub(crate) fn members(&self, key: Id) -> &[T]
         ensures { result.now ≡ members self.now key.number }
     {
         match self.lists.get(&key) {
@@ -58,7 +58,7 @@ impl Groups {
 }
 
 /// Puts a member behind the others.
-fn put(list: &mut Listed<Id>, member: Id) -> Result<(), NoMemory>
+fn put<T: Copy>(list: &mut Listed<T>, member: T) -> Result<(), NoMemory>
     ensures { OnOk result (list.new ≡ list.old ++ member ∷ []) }
 {
     match list.push(member) {

@@ -2,6 +2,7 @@
 
 ghost use Rattle.std.specs.Prelude.{◌≡◌, ◌↔◌, ℕ, Bool, Some, Contains, map, option_map};
 ghost use Rattle.cim_words.specs.declared.class.Class.{Class};
+ghost use Rattle.cim_model.specs.Marks.{marks_of};
 ghost use Rattle.cim_model.specs.Model.{is_of, is_subject};
 ghost use Rattle.cim_model.specs.Network as network;
 ghost use Rattle.cim_model.specs.Phases.{union};
@@ -11,12 +12,14 @@ ghost use Rattle.cim_records.specs.Subject.{records};
 ghost use Rattle.cim_model.specs.Stated.{terminals_at};
 ghost use Rattle.cim_model.specs.Values.{as_id, as_length, number_of_id};
 ghost use Rattle.cim_words.specs.declared.identifier.Id.{Id};
+ghost use Rattle.segment_cuts.specs.Sections.{AreMarks};
 
 use crate::index::Index;
 use crate::subject::Subject;
 use crate::tables::is_equipment;
-use cim_model::{subjects_have_one_class, terminals_belong_where_listed};
+use cim_model::{marks_divide_segments, subjects_have_one_class, terminals_belong_where_listed};
 use cim_words::{Class, Id, Length, PhaseSet};
+use segment_cuts::Mark;
 
 impl Index {
     /// Whether a statement is about the identifier.
@@ -132,6 +135,22 @@ impl Index {
         ensures { result ≡ option_map as_id (network.equipment_of self.now part.number) }
     {
         self.subject(part).equipment
+    }
+
+    /// The cuts and clamps of a segment, in ascending order of identifier; what is no segment has none. They are marks of a line.
+    pub fn marks_of(&self, segment: Id) -> &[Mark]
+        ensures list { result.now ≡ marks_of self.now segment.number }
+        ensures line { AreMarks result.now }
+    {
+        marks_divide_segments();
+        self.tables.marks.members(segment)
+    }
+
+    /// The segment on which a cut or a clamp stands; what is neither stands on none.
+    pub fn segment_of(&self, mark: Id) -> Option<Id>
+        ensures { result ≡ option_map as_id (network.segment_of self.now mark.number) }
+    {
+        self.subject(mark).segment
     }
 
     /// What is known of a subject; the model has no fault.

@@ -68,6 +68,8 @@ impl<'a> Run<'a> {
             is_open: self.is_open(),
             equipment: self.equipment(),
             phase: self.phase(),
+            segment: self.segment(),
+            mark_length: self.mark_length(),
         }
     }
 
@@ -96,6 +98,22 @@ impl<'a> Run<'a> {
         self.kind(KnownProp::K14)
             .or(self.kind(KnownProp::K16))
             .or(self.kind(KnownProp::K19))
+    }
+
+    /// The segment of a clamp or a cut.
+    fn segment(&self) -> Option<Id>
+        ensures { result ≡ option_map as_id (spec.segment_in self.now.class self.now.statements.now) }
+    {
+        self.id(KnownProp::K9).or(self.id(KnownProp::K11))
+    }
+
+    /// How far a clamp or a cut is from its segment's terminal 1: as stated, else at it.
+    fn mark_length(&self) -> Length
+        ensures { result ≡ as_length (spec.mark_length_in self.now.class self.now.statements.now) }
+    {
+        self.length(KnownProp::K10)
+            .or(self.length(KnownProp::K12))
+            .unwrap_or(Length { mm: 0 })
     }
 
     /// The first object of a property that counts on the class.

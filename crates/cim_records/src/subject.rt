@@ -3,9 +3,10 @@
 ghost use Rattle.std.specs.Prelude.{◌≡◌, []};
 ghost use Rattle.cim_model.specs.Network.{has_sides, is_class};
 ghost use Rattle.cim_words.specs.Groups.{counts_on, is_equipment_class, is_node, is_terminal};
-ghost use Rattle.cim_records.specs.Subject.{subject_in};
+ghost use Rattle.cim_records.specs.Subject.{mark_of, subject_in};
 
 use cim_words::{Class, Id, KnownProp, Length, PhaseSet};
+use segment_cuts::Mark;
 
 /// What the statements about a subject say of it, by the properties that count on its class.
 #[derive(Clone, Copy, Drop)]
@@ -27,6 +28,10 @@ pub(crate) struct Subject {
     pub(crate) equipment: Option<Id>,
     /// The phase that a phase object states.
     pub(crate) phase: Option<PhaseSet>,
+    /// The segment on which a cut or a clamp stands.
+    pub(crate) segment: Option<Id>,
+    /// How far a cut or a clamp is from its segment's terminal 1.
+    pub(crate) mark_length: Length,
 }
 
 impl Subject {
@@ -44,6 +49,8 @@ impl Subject {
             is_open: false,
             equipment: None,
             phase: None,
+            segment: None,
+            mark_length: Length { mm: 0 },
         }
     }
 
@@ -74,6 +81,17 @@ impl Subject {
     {
         self.class
             .is_some_and(|class| class.is_segment() || class.is_cut())
+    }
+
+    /// The subject as a mark of its segment; a cut divides it.
+    pub(crate) fn mark(&self, id: Id) -> Mark
+        ensures { result ≡ mark_of id self.now }
+    {
+        Mark {
+            id,
+            length: self.mark_length,
+            divides: self.class.is_some_and(Class::is_cut),
+        }
     }
 
     /// Whether a property counts on it.

@@ -6,7 +6,7 @@ ghost use Rattle.cim_model.specs.Model.{is_empty};
 ghost use Rattle.cim_model.specs.Network as network;
 ghost use Rattle.cim_model.specs.Profile.{IsFaultless};
 ghost use Rattle.cim_model.specs.Values.{as_id};
-ghost use Rattle.cim_records.specs.Tables.{HoldsNodeTerminals, HoldsPhases, HoldsTerminals};
+ghost use Rattle.cim_records.specs.Tables.{HoldsMarks, HoldsNodeTerminals, HoldsPhases, HoldsTerminals};
 ghost use Rattle.cim_records.specs.Subject.{records};
 
 use crate::gathering::{Gathering, gather};
@@ -15,6 +15,7 @@ use crate::part_phases::PartPhases;
 use crate::subject::Subject;
 use crate::subjects::Subjects;
 use cim_words::{Id, KnownProp, NoMemory, Statement};
+use segment_cuts::Mark;
 use statement_set::StatementSet;
 use std::alloc::Global;
 
@@ -23,9 +24,10 @@ use std::alloc::Global;
 pub(crate) struct Tables {
     pub(crate) set: StatementSet,
     pub(crate) subjects: Subjects,
-    pub(crate) terminals: Groups,
-    pub(crate) node_terminals: Groups,
+    pub(crate) terminals: Groups<Id>,
+    pub(crate) node_terminals: Groups<Id>,
     pub(crate) phases: PartPhases,
+    pub(crate) marks: Groups<Mark>,
     pub(crate) equipment: Vec<Id>,
     pub(crate) nodes: Vec<Id>,
     ghost faultless: { IsFaultless set },
@@ -33,6 +35,7 @@ pub(crate) struct Tables {
     ghost of_terminals: { HoldsTerminals set terminals },
     ghost of_node_terminals: { HoldsNodeTerminals set node_terminals },
     ghost of_phases: { HoldsPhases set phases },
+    ghost of_marks: { HoldsMarks set marks },
     ghost of_equipment: { equipment.items ≡ map as_id (network.equipment set) },
     ghost of_nodes: { nodes.items ≡ map as_id (network.nodes set) },
 }
@@ -48,6 +51,7 @@ impl Tables {
         let terminals = terminals(alloc, &subjects, statements)?;
         let node_terminals = node_terminals(alloc, &subjects, statements)?;
         let phases = phases(alloc, &subjects, statements)?;
+        let marks = marks(alloc, &subjects, statements)?;
         let equipment = equipment(alloc, &subjects, &terminals, statements)?;
         let nodes = nodes(alloc, &subjects, statements)?;
         Ok(Tables {
@@ -56,6 +60,7 @@ impl Tables {
             terminals,
             node_terminals,
             phases,
+            marks,
             equipment,
             nodes,
         })
@@ -67,7 +72,7 @@ fn terminals(
     alloc: Global,
     subjects: &Subjects,
     statements: &[Statement],
-) -> Result<Groups, NoMemory>
+) -> Result<Groups<Id>, NoMemory>
     requires faultless { IsFaultless statements.now }
     requires subjects { subjects.now ≡ records statements.now }
     ensures { IfOk result (HoldsTerminals statements.now) }
@@ -83,7 +88,7 @@ fn node_terminals(
     alloc: Global,
     subjects: &Subjects,
     statements: &[Statement],
-) -> Result<Groups, NoMemory>
+) -> Result<Groups<Id>, NoMemory>
     requires faultless { IsFaultless statements.now }
     requires subjects { subjects.now ≡ records statements.now }
     ensures { IfOk result (HoldsNodeTerminals statements.now) }
@@ -110,11 +115,31 @@ fn phases(
     Ok(phases)
 }
 
+/// The cuts and clamps of segments, in the order of the subjects.
+fn marks(
+    alloc: Global,
+    subjects: &Subjects,
+    statements: &[Statement],
+) -> Result<Groups<Mark>, NoMemory>
+    requires faultless { IsFaultless statements.now }
+    requires subjects { subjects.now ≡ records statements.now }
+    ensures { IfOk result (HoldsMarks statements.now) }
+{
+    let mut marks = Groups::empty(alloc);
+    for (id, subject) in subjects.iter() {
+        let Some(segment) = subject.segment else {
+            continue;
+        };
+        marks.add(segment, subject.mark(*id))?;
+    }
+    Ok(marks)
+}
+
 /// The equipment among the subjects, in their order.
 fn equipment(
     alloc: Global,
     subjects: &Subjects,
-    terminals: &Groups,
+    terminals: &Groups<Id>,
     statements: &[Statement],
 ) -> Result<Vec<Id>, NoMemory>
     requires faultless { IsFaultless statements.now }

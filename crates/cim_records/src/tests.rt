@@ -8,6 +8,7 @@ use cim_profile::first_break;
 use cim_words::{
     Class, Id, KnownProp, Length, NoMemory, Object, PhaseSet, Prop, Statement, Statements, Word,
 };
+use segment_cuts::Mark;
 use statement_set::StatementSet;
 use std::alloc::Global;
 use std::process::Abort;
@@ -145,8 +146,8 @@ const SWITCHES: [Row; 23] = [
     ),
 ];
 
-/// The terminals of the transformer 15, a consumer 16 with a phase object for B, a house 17 with a terminal, and what has two unknown types.
-const OTHERS: [Row; 18] = [
+/// The terminals of the transformer 15, a consumer 16 with a phase object for B, a house 17 with a terminal, and 50 of two unknown types, whose other properties count for nothing.
+const OTHERS: [Row; 19] = [
     (33, KnownProp::K1, TERMINAL),
     (33, KnownProp::K2, Said::Id(15)),
     (32, KnownProp::K1, TERMINAL),
@@ -177,6 +178,35 @@ const OTHERS: [Row; 18] = [
     (50, KnownProp::K1, Said::Name("http://example.org/Shed")),
     (50, KnownProp::K2, Said::Id(10)),
     (50, KnownProp::K7, Said::Text("true")),
+    (50, KnownProp::K11, Said::Id(10)),
+];
+
+/// More on segment 10: a cut 18, which also says what counts on clamps alone, and a clamp 19 nearer to terminal 1.
+const MARKS: [Row; 16] = [
+    (
+        18,
+        KnownProp::K1,
+        Said::Name("http://iec.ch/TC57/CIM100#Cut"),
+    ),
+    (18, KnownProp::K9, Said::Id(11)),
+    (18, KnownProp::K10, Said::Text("1")),
+    (18, KnownProp::K11, Said::Id(10)),
+    (18, KnownProp::K12, Said::Text("5")),
+    (36, KnownProp::K1, TERMINAL),
+    (36, KnownProp::K2, Said::Id(18)),
+    (36, KnownProp::K5, Said::Text("1")),
+    (37, KnownProp::K1, TERMINAL),
+    (37, KnownProp::K2, Said::Id(18)),
+    (37, KnownProp::K5, Said::Text("2")),
+    (
+        19,
+        KnownProp::K1,
+        Said::Name("http://iec.ch/TC57/CIM100#Clamp"),
+    ),
+    (19, KnownProp::K9, Said::Id(10)),
+    (19, KnownProp::K10, Said::Text("2.5")),
+    (38, KnownProp::K1, TERMINAL),
+    (38, KnownProp::K2, Said::Id(19)),
 ];
 
 fn object(alloc: Global, said: Said) -> Result<Object, NoMemory>
@@ -208,6 +238,7 @@ fn network(alloc: Global) -> Result<Index, Fail> {
     append(&mut statements, &SEGMENTS)?;
     append(&mut statements, &SWITCHES)?;
     append(&mut statements, &OTHERS)?;
+    append(&mut statements, &MARKS)?;
     let set = StatementSet::from_list(Statements::of(statements))?;
     match first_break(alloc, &set)? {
         Some(found) => Err(Fail::new(found.rule)),
@@ -241,7 +272,7 @@ fn phases(a: bool, b: bool, c: bool, n: bool) -> PhaseSet {
 #[test]
 fn lists(rt: HostRuntime) -> Result<(), Fail> {
     let index = network(rt.alloc())?;
-    assert!(rt; are(index.equipment(), &[10, 11, 12, 13, 14, 15, 16, 17]));
+    assert!(rt; are(index.equipment(), &[10, 11, 12, 13, 14, 15, 16, 17, 18, 19]));
     assert!(rt; are(index.nodes(), &[20, 21]));
     let terminals: [(u128, &[u128]); 7] = [
         (10, &[2, 1]),
@@ -287,7 +318,7 @@ fn phases_of_terminals(rt: HostRuntime) -> Result<(), Fail> {
 fn subjects(rt: HostRuntime) -> Result<(), Fail> {
     let built = network(rt.alloc())?;
     let index = built.share()?;
-    assert!(rt; index.set().len() == 70);
+    assert!(rt; index.set().len() == 87);
     for (id, subject, equipment, open) in [
         (12, true, true, false),
         (13, true, true, true),
@@ -311,5 +342,34 @@ fn subjects(rt: HostRuntime) -> Result<(), Fail> {
     assert!(rt; is(index.equipment_of(Id::of(42)), 16));
     assert!(rt; index.length_of(Id::of(10)) == Some(Length { mm: 9000 }));
     assert!(rt; index.length_of(Id::of(11)).is_none());
+    Ok(())
+}
+
+fn mark(id: u128, mm: u64, divides: bool) -> Mark {
+    Mark {
+        id: Id::of(id),
+        length: Length { mm },
+        divides,
+    }
+}
+
+#[test]
+fn marks(rt: HostRuntime) -> Result<(), Fail> {
+    let index = network(rt.alloc())?;
+    let on_ten = [
+        mark(14, 0, true),
+        mark(18, 5000, true),
+        mark(19, 2500, false),
+    ];
+    assert!(rt; index.marks_of(Id::of(10)) == on_ten.as_slice());
+    for segment in [11, 14, 50, 99] {
+        assert!(rt; index.marks_of(Id::of(segment)).is_empty(), "on {segment}");
+    }
+    for mark in [14, 18, 19] {
+        assert!(rt; is(index.segment_of(Id::of(mark)), 10), "of {mark}");
+    }
+    for other in [10, 12, 36, 50, 99] {
+        assert!(rt; index.segment_of(Id::of(other)).is_none(), "of {other}");
+    }
     Ok(())
 }

@@ -1,8 +1,10 @@
--- The graph of a model without cuts and clamps under an empty overlay, entry by entry, of this project.
-use Rattle.std.specs.Prelude.{ℕ, ◌≡◌, ◌↔◌, List, [], ◌∷◌, map, false, IsTrue, if◌then◌else◌, Option, Some, None, Contains, option_map, unwrap_or}
+-- The graph of a model under an empty overlay, entry by entry, of this project.
+use Rattle.std.specs.Prelude.{ℕ, ◌≡◌, ◌↔◌, List, map, false, IsTrue, if◌then◌else◌, Option, Some, None, Contains, option_map, unwrap_or}
+use Rattle.std.specs.List.{filter_map}
 use Rattle.std.specs.List.Sorted.{IsStrictlySortedBy}
+use Rattle.cim_model.specs.Marks.{marks_of, spot_owner, terminal_at}
 use Rattle.cim_model.specs.Model.{is_of}
-use Rattle.cim_model.specs.Network.{class_in, is_equipment, node_of, open_of, owner_of, phases_of, segment_phases, terminals_by_side}
+use Rattle.cim_model.specs.Network.{class_in, is_equipment, node_of, open_of, owner_of, phases_of, segment_of, segment_phases, terminals_by_side}
 use Rattle.cim_model.specs.Values.{as_id}
 use Rattle.cim_words.specs.Groups.{is_node, is_passing, is_segment, is_switch, is_transformer}
 use Rattle.cim_words.specs.declared.class.Class.TheVariants as class
@@ -18,6 +20,8 @@ use Rattle.graph_pages.specs.declared.term.TermKey.TheVariants as key
 use Rattle.link_rules.specs.Order.{term_order}
 use Rattle.room_words.specs.declared.anchor.Anchor.{Anchor}
 use Rattle.room_words.specs.declared.anchor.Anchor.TheVariants as anchor
+use Rattle.segment_cuts.specs.Sections.{AreSections}
+use Rattle.segment_cuts.specs.declared.mark.Spot.{Spot}
 
 -- a terminal t of equipment x, and how the star of x lists it: with its node and its phases
 abbrev pub term : ℕ → ℕ → Term
@@ -29,30 +33,47 @@ at_node n = anchor.Node (as_id n)
 abbrev pub spoke : List Statement → ℕ → ℕ → Spoke
 spoke m x t = record { term = term x t; at = option_map at_node (node_of m t); phases = phases.Own (phases_of m t) }
 
--- a segment without cuts and clamps has one section, with its terminal 1 and its terminal 2
-abbrev pub line : List Statement → ℕ → Pass
-line m x = pass.Line (segment_phases m x) (map (term x) (terminals_by_side m x) ∷ [])
+-- the terminals on a segment, section by section, and how its star lists them
+abbrev pub term_at : List Statement → ℕ → Spot → Option Term
+term_at m x s = option_map (term (spot_owner x s)) (terminal_at m x s)
 
--- how current passes between the terminals of equipment, by its class
-abbrev pub pass_of : List Statement → ℕ → Pass
-pass_of m x =
-    if is_of m is_segment x then line m x else
+abbrev pub line : List Statement → ℕ → List (List Spot) → Pass
+line m x sections = pass.Line (segment_phases m x) (map (filter_map (term_at m x)) sections)
+
+-- how current passes between the terminals of equipment, by its class: along the line of a segment, and else in these ways
+abbrev pub class_pass : List Statement → ℕ → Pass
+class_pass m x =
     if is_of m is_switch x then pass.Switch (open_of m x) else
     if is_of m is_passing x then pass.Same else
     if is_of m is_transformer x then pass.Transformer else pass.Nothing
 
--- the star of equipment, and of nothing else
-abbrev pub star : List Statement → ℕ → Star
-star m x = record {
+abbrev pub pass_of : List Statement → ℕ → List (List Spot) → Pass
+pass_of m x sections = if is_of m is_segment x then line m x sections else class_pass m x
+
+-- lists of spots are the sections of equipment: where it is a segment, those into which its marks divide it
+abbrev pub HasSections : List Statement → ℕ → List (List Spot) → Type 0
+HasSections m x sections = IsTrue (is_of m is_segment x) → AreSections (marks_of m x) sections
+
+abbrev pub IsPass : List Statement → ℕ → Pass → Type 0
+IsPass m x found = (sections : List (List Spot)) × HasSections m x sections × (found ≡ pass_of m x sections)
+
+-- the star of equipment, with the sections of its line where it is a segment
+abbrev pub star : List Statement → ℕ → List (List Spot) → Star
+star m x sections = record {
   id = as_id x;
   class = unwrap_or (class_in m x) class.Other;
-  on = None;
+  on = option_map as_id (segment_of m x);
   spokes = map (spoke m x) (terminals_by_side m x);
-  pass = pass_of m x;
+  pass = pass_of m x sections;
 }
 
-abbrev pub star_at : List Statement → ℕ → Option Star
-star_at m x = if is_equipment m x then Some (star m x) else None
+abbrev pub IsStar : List Statement → ℕ → Star → Type 0
+IsStar m x found = (sections : List (List Spot)) × HasSections m x sections × (found ≡ star m x sections)
+
+-- equipment has its star, and nothing else has one
+abbrev pub IsStarAt : List Statement → ℕ → Option Star → Type 0
+IsStarAt m x None = is_equipment m x ≡ false
+IsStarAt m x (Some found) = IsTrue (is_equipment m x) × IsStar m x found
 
 -- a terminal of the model at a node, with its owner
 pub record IsTermAt (m : List Statement) (n : ℕ) (u : Term) : Type 0 where
@@ -79,5 +100,5 @@ IsEntry m (anchor.Side item side) None = Unit {0}
 
 -- the graph of a model
 pub record IsMap (m : List Statement) (g : GraphView) : Type 0 where
-  pub stars : (x : ℕ) → star_of g x ≡ star_at m x
+  pub stars : (x : ℕ) → IsStarAt m x (star_of g x)
   pub places : (place : Anchor) → IsEntry m place (members_of g place)

@@ -1,6 +1,7 @@
 //! The entries of the graph of a network: the star of each piece of equipment, and the members of each place.
 #![tactic(auto)]
 
+mod line;
 mod members;
 mod order;
 mod star;

@@ -3,7 +3,6 @@
 ghost use Rattle.std.specs.Prelude.{◌≡◌, [], IfOk};
 ghost use Rattle.std.specs.List.{filter_map};
 ghost use Rattle.cim_model.specs.Model.{is_of};
-ghost use Rattle.cim_model.specs.Network.{IsUnmarked};
 ghost use Rattle.cim_words.specs.Groups as groups;
 ghost use Rattle.cim_words.specs.declared.identifier.Id.{Id};
 ghost use Rattle.link_rules.specs.Map as spec;
@@ -25,7 +24,6 @@ pub fn members_of(
     overlay: &Overlay,
     place: Anchor,
 ) -> Result<Option<Members>, NoMemory>
-    requires unmarked { IsUnmarked index.now }
     requires no_items { overlay.now.items ≡ [] }
     requires no_positions { overlay.now.positions ≡ [] }
     ensures { IfOk result (IsEntry index.now place) }

@@ -1,14 +1,17 @@
 //! The stars of equipment.
 
 ghost use Rattle.std.specs.Prelude.{◌≡◌, [], ◌∷◌, map, option_map, IfOk};
-ghost use Rattle.cim_model.specs.Network.{IsUnmarked, terminals_by_side};
+ghost use Rattle.cim_model.specs.Model.{is_of};
+ghost use Rattle.cim_model.specs.Network.{terminals_by_side};
 ghost use Rattle.cim_model.specs.Values.{as_id};
+ghost use Rattle.cim_words.specs.Groups as groups;
 ghost use Rattle.link_rules.specs.Map as spec;
 
-use crate::term::{term_of, terms_of};
+use crate::line::line_of;
+use crate::term::term_of;
 use cim_records::Index;
 use cim_words::{Class, Id, Listed, NoMemory};
-use graph_pages::{Pass, Section, Sections, Spoke, SpokePhases, Spokes, Star};
+use graph_pages::{Pass, Spoke, SpokePhases, Spokes, Star};
 use room_words::{Anchor, Overlay};
 use std::alloc::Global;
 
@@ -19,10 +22,9 @@ pub fn star_of(
     overlay: &Overlay,
     id: Id,
 ) -> Result<Option<Star>, NoMemory>
-    requires unmarked { IsUnmarked index.now }
     requires no_items { overlay.now.items ≡ [] }
     requires no_positions { overlay.now.positions ≡ [] }
-    ensures { IfOk result (λ star. star ≡ spec.star_at index.now id.number) }
+    ensures { IfOk result (spec.IsStarAt index.now id.number) }
 {
     if !index.is_equipment(id) {
         return Ok(None);
@@ -30,7 +32,7 @@ pub fn star_of(
     Ok(Some(Star {
         id,
         class: index.class_of(id).unwrap_or(Class::Other),
-        on: None,
+        on: index.segment_of(id),
         spokes: spokes_of(alloc, index, id)?,
         pass: pass_of(alloc, index, id)?,
     }))
@@ -59,15 +61,32 @@ fn spoke_of(index: &Index, owner: Id, terminal: Id) -> Spoke
     }
 }
 
-/// How current passes between the terminals of equipment, by its class.
+/// How current passes between the terminals of equipment: along the line of a segment, and else by its class.
 fn pass_of(alloc: Global, index: &Index, id: Id) -> Result<Pass, NoMemory>
-    ensures { IfOk result (λ pass. pass ≡ spec.pass_of index.now id.number) }
+    ensures { IfOk result (spec.IsPass index.now id.number) }
 {
-    let class = index.class_of(id).unwrap_or(Class::Other);
-    if class.is_segment() {
+    if is_segment(index, id) {
         return line_of(alloc, index, id);
     }
-    Ok(if class.is_switch() {
+    Ok(class_pass(index, id))
+}
+
+/// Whether the identifier is that of a line segment.
+fn is_segment(index: &Index, id: Id) -> bool
+    ensures { result ≡ is_of index.now groups.is_segment id.number }
+{
+    match index.class_of(id) {
+        Some(class) => class.is_segment(),
+        None => false,
+    }
+}
+
+/// How current passes between the terminals of equipment that is no segment.
+fn class_pass(index: &Index, id: Id) -> Pass
+    ensures { result ≡ spec.class_pass index.now id.number }
+{
+    let class = index.class_of(id).unwrap_or(Class::Other);
+    if class.is_switch() {
         Pass::Switch {
             is_open: index.open_of(id),
         }
@@ -77,20 +96,5 @@ fn pass_of(alloc: Global, index: &Index, id: Id) -> Result<Pass, NoMemory>
         Pass::Transformer
     } else {
         Pass::Nothing
-    })
-}
-
-/// A segment without cuts and clamps has one section, with both its terminals.
-fn line_of(alloc: Global, index: &Index, id: Id) -> Result<Pass, NoMemory>
-    ensures { IfOk result (λ pass. pass ≡ spec.line index.now id.number) }
-{
-    let mut sections: Sections = Listed::empty(alloc);
-    let section: Section = terms_of(alloc, id, index.terminals_of(id))?;
-    match sections.push(section) {
-        Ok(()) => Ok(Pass::Line {
-            phases: index.segment_phases(id),
-            sections,
-        }),
-        Err(_) => Err(NoMemory),
     }
 }

@@ -1,5 +1,5 @@
 -- From what is known of the bytes that were read to the answer.
-use Rattle.std.proofs.Common.{◌≡◌, ℕ, ◌<◌, ◌⊎◌, inl, inr, List, length, Option, Some, None, Result, Ok, Err, IfOk, IfSome, IfErr, Vec, Global, refl, subst}
+use Rattle.std.proofs.Common.{◌≡◌, ℕ, ◌<◌, inl, inr, List, length, Option, Some, None, Result, Ok, Err, IfOk, IfSome, IfErr, Vec, Global, refl, subst}
 use Rattle.cim_words.specs.declared.statement.Statement.{Statement}
 use Rattle.grid_out.specs.declared.reading.ShelfFault.{ShelfFault}
 use Rattle.grid_out.specs.declared.reading.ShelfFault.TheVariants as fault
@@ -37,14 +37,12 @@ no_answer s content words asks bytes is refuses =
 
 -- a trace and a check are refused for no other reasons than these
 abbrev IsReason : Status → Type 0
-IsReason status.Later = Unit {0}
 IsReason status.Asked = Unit {0}
 IsReason status.NoMemory = Unit {0}
 IsReason _ = ⊥
 
 reason : (s : Status) (asked : Task) (set : List Statement) → RefusesTask asked set s → IsReason s
 reason s task.Check set refuses = absurd refuses
-reason status.Later (task.Trace source phases) set refuses = tt
 reason status.Asked (task.Trace source phases) set refuses = tt
 reason status.NoMemory (task.Trace source phases) set refuses = tt
 reason status.Ok (task.Trace source phases) set refuses = absurd refuses
@@ -60,14 +58,12 @@ untold_by : (s : Status) (content : List ℕ → Option (List ℕ)) (words : Lis
 untold_by status.Limit content words asks bytes is (inl refuses) = (none_of status.Limit content words asks bytes is refuses, refl)
 untold_by (status.Document line why) content words asks bytes is (inl refuses) = (none_of (status.Document line why) content words asks bytes is refuses, refl)
 untold_by (status.Profile rule subject) content words asks bytes is (inl refuses) = (none_of (status.Profile rule subject) content words asks bytes is refuses, refl)
-untold_by status.Later content words asks bytes is (inr refuses) = (no_answer status.Later content words asks bytes is refuses, refl)
 untold_by status.Asked content words asks bytes is (inr refuses) = (no_answer status.Asked content words asks bytes is refuses, refl)
 untold_by status.NoMemory content words asks bytes is refuses = refl
 untold_by status.Ok content words asks bytes is (inl refuses) = absurd refuses
 untold_by status.Usage content words asks bytes is (inl refuses) = absurd refuses
 untold_by status.ReadFault content words asks bytes is (inl refuses) = absurd refuses
 untold_by status.WriteFault content words asks bytes is (inl refuses) = absurd refuses
-untold_by status.Later content words asks bytes is (inl refuses) = absurd refuses
 untold_by status.Asked content words asks bytes is (inl refuses) = absurd refuses
 untold_by status.Ok content words asks bytes is (inr refuses) = absurd (reason status.Ok asks.asked refuses.0 refuses.2)
 untold_by status.Usage content words asks bytes is (inr refuses) = absurd (reason status.Usage asks.asked refuses.0 refuses.2)

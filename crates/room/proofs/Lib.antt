@@ -1,5 +1,5 @@
 pub mod AnswerLemmas
-pub mod MarkLemmas
+pub mod LawsBelow
 pub mod OneAnswer
 pub mod OneBase
 pub mod StreamLemmas

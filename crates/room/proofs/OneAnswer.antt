@@ -1,26 +1,24 @@
 -- The words and what the shelf tells have one answer.
 use Rattle.std.proofs.Common.{◌≡◌, ℕ, ◌⊎◌, inl, inr, List, [], ◌∷◌, length, Some, IsTrue, true, false, codes, refl, sym, ap, subst, ◌∙◌, ◌==◌}
+use Rattle.std.proofs.lemmas.Option.{same_Some}
 use Rattle.cim_words.specs.IdText.{plain_number}
 use Rattle.cim_words.specs.Phases.{phase_text}
 use Rattle.cim_words.specs.declared.identifier.Id.{Id}
 use Rattle.cim_words.specs.declared.phases.PhaseSet.{PhaseSet}
 use Rattle.cim_words.specs.declared.statement.Statement.{Statement}
 use Rattle.cim_words.proofs.PhaseTexts.{phase_text-injective}
-use Rattle.nt_text.proofs.Readings.{some_is}
 use Rattle.room.specs.Base.{IsBase, RefusesBase}
 use Rattle.room.specs.Command.{IsCommand, IsCheckCommand, IsTraceCommand}
 use Rattle.cim_model.specs.Links.{IsReached}
-use Rattle.cim_model.specs.Network.{IsUnmarked}
-use Rattle.room.specs.Marks.{IsMarked}
-use Rattle.room.specs.Run.{Answers, Asks, IsNoCommand, IsTraced, Reads, RefusesTask, Tells, is_answer}
+use Rattle.room.specs.Run.{Answers, Asks, IsNoCommand, RefusesTask, Tells, is_answer}
 use Rattle.room.specs.Status.{status_line}
 use Rattle.room.specs.TraceText.{trace_text}
 use Rattle.room.specs.declared.status.Status.{Status}
 use Rattle.room.specs.declared.status.Status.TheVariants as status
 use Rattle.room.specs.declared.task.Task.{Task}
 use Rattle.room.specs.declared.task.Task.TheVariants as task
+use Rattle.room.proofs.LawsBelow.{KeepLaws}
 use Rattle.room.proofs.OneBase.{one_set, base_or_refused, one_refusal}
-use Rattle.cim_model.proofs.OneTrace.{one_trace}
 
 -- words name one base and ask for one task
 same_trace : (a b : Id) (p q : PhaseSet) → a.number ≡ b.number → p ≡ q → task.Trace a p ≡ task.Trace b q
@@ -33,6 +31,7 @@ two_or_four words name other source phases check trace =
     let same : true ≡ false = ap (λ (ws : List (List ℕ)). length ws == 2) (sym check.two_words ∙ trace.four_words) in
     absurd cc
 
+-- (that a text is of one set of phases is a lemma of the crate of words, which has no law that says it)
 one_command : (words : List (List ℕ)) (name name' : List ℕ) (a b : Task) → IsCommand words name a → IsCommand words name' b → (name ≡ name') × (a ≡ b)
 one_command words name name' task.Check task.Check p q =
     let same : codes "check" ∷ name ∷ [] ≡ codes "check" ∷ name' ∷ [] = sym p.two_words ∙ q.two_words in
@@ -46,24 +45,20 @@ one_command words name name' (task.Trace source phases) (task.Trace source' phas
     let names : name ≡ name' = cc in
     let texts : phase_text phases ≡ phase_text phases' = cc in
     let source_words : p.source_word ≡ q.source_word = cc in
-    let sources : source.number ≡ source'.number = some_is source.number source'.number (sym p.identifier ∙ ap plain_number source_words ∙ q.identifier) in
+    let sources : source.number ≡ source'.number = same_Some source.number source'.number (sym p.identifier ∙ ap plain_number source_words ∙ q.identifier) in
     (names, same_trace source source' phases phases' sources (phase_text-injective phases phases' texts))
 
 -- a task tells one text of a set, or nothing for one reason
-one_text : (asked : Task) (set : List Statement) (x y : List ℕ) → Tells asked set x → Tells asked set y → x ≡ y
-one_text task.Check set x y a b = a ∙ sym b
-one_text (task.Trace source phases) set x y a b = a.is_text ∙ ap trace_text (one_trace (IsReached set source.number phases) a.rows b.rows a.trace b.trace) ∙ sym b.is_text
+one_text : KeepLaws → (asked : Task) (set : List Statement) (x y : List ℕ) → Tells asked set x → Tells asked set y → x ≡ y
+one_text laws task.Check set x y a b = a ∙ sym b
+one_text laws (task.Trace source phases) set x y a b = a.is_text ∙ ap trace_text (laws.trace set source.number phases a.rows b.rows a.trace b.trace) ∙ sym b.is_text
 
 yes_or_no : {P : Type 0} → true ≡ false → P
 yes_or_no same = absurd cc
 
-marked_or_not : {P : Type 0} (set : List Statement) → IsMarked set → IsUnmarked set → P
-marked_or_not set marked unmarked = yes_or_no (sym marked.1 ∙ unmarked marked.0)
-
 told_or_not : (asked : Task) (set : List Statement) (x : List ℕ) (s : Status) → IsTrue (is_answer s) → Tells asked set x → RefusesTask asked set s → ⊥
 told_or_not task.Check set x s is a none = none
-told_or_not (task.Trace source phases) set x status.Later is a none = marked_or_not set none a.unmarked
-told_or_not (task.Trace source phases) set x status.Asked is a none = yes_or_no (sym a.equipment ∙ none.1)
+told_or_not (task.Trace source phases) set x status.Asked is a none = yes_or_no (sym a.equipment ∙ none)
 told_or_not (task.Trace source phases) set x status.NoMemory is a none = let no : false ≡ true = is in absurd cc
 told_or_not (task.Trace source phases) set x status.Ok is a none = none
 told_or_not (task.Trace source phases) set x status.Usage is a none = none
@@ -75,9 +70,6 @@ told_or_not (task.Trace source phases) set x status.WriteFault is a none = none
 
 one_reason : (asked : Task) (set : List Statement) (s t : Status) → IsTrue (is_answer s) → IsTrue (is_answer t) → RefusesTask asked set s → RefusesTask asked set t → s ≡ t
 one_reason task.Check set s t is is' a b = absurd a
-one_reason (task.Trace source phases) set status.Later status.Later is is' a b = refl
-one_reason (task.Trace source phases) set status.Later status.Asked is is' a b = marked_or_not set a b.0
-one_reason (task.Trace source phases) set status.Asked status.Later is is' a b = marked_or_not set b a.0
 one_reason (task.Trace source phases) set status.Asked status.Asked is is' a b = refl
 one_reason (task.Trace source phases) set status.NoMemory t is is' a b = let no : false ≡ true = is in absurd cc
 one_reason (task.Trace source phases) set s status.NoMemory is is' a b = let no : false ≡ true = is' in absurd cc
@@ -119,36 +111,36 @@ Outcome bytes asked s x = Told bytes asked s x ⊎ (Refused bytes s x ⊎ Untold
 same_line : (s t : Status) (x y : List ℕ) → s ≡ t → x ≡ status_line s → y ≡ status_line t → (s ≡ t) × (x ≡ y)
 same_line s t x y same a b = (same, a ∙ ap status_line same ∙ sym b)
 
-two_told : (bytes : List ℕ) (asked : Task) (s t : Status) (x y : List ℕ) → Told bytes asked s x → Told bytes asked t y → (s ≡ t) × (x ≡ y)
-two_told bytes asked s t x y a b =
-    let same : a.set ≡ b.set = one_set bytes a.set b.set a.base.read b.base.read in
+two_told : KeepLaws → (bytes : List ℕ) (asked : Task) (s t : Status) (x y : List ℕ) → Told bytes asked s x → Told bytes asked t y → (s ≡ t) × (x ≡ y)
+two_told laws bytes asked s t x y a b =
+    let same : a.set ≡ b.set = one_set laws bytes a.set b.set a.base.read b.base.read in
     let P : List Statement → Type 0 = λ set. Tells asked set x in
-    (a.well ∙ sym b.well, one_text asked b.set x y (subst P same a.tells) b.tells)
+    (a.well ∙ sym b.well, one_text laws asked b.set x y (subst P same a.tells) b.tells)
 
-told_or_untold : (bytes : List ℕ) (asked : Task) (s t : Status) (x y : List ℕ) → IsTrue (is_answer t) → Told bytes asked s x → Untold bytes asked t y → ⊥
-told_or_untold bytes asked s t x y is a b =
-    let same : a.set ≡ b.set = one_set bytes a.set b.set a.base.read b.base.read in
+told_or_untold : KeepLaws → (bytes : List ℕ) (asked : Task) (s t : Status) (x y : List ℕ) → IsTrue (is_answer t) → Told bytes asked s x → Untold bytes asked t y → ⊥
+told_or_untold laws bytes asked s t x y is a b =
+    let same : a.set ≡ b.set = one_set laws bytes a.set b.set a.base.read b.base.read in
     let P : List Statement → Type 0 = λ set. Tells asked set x in
     told_or_not asked b.set x t is (subst P same a.tells) b.refuses
 
-two_untold : (bytes : List ℕ) (asked : Task) (s t : Status) (x y : List ℕ) → IsTrue (is_answer s) → IsTrue (is_answer t)
+two_untold : KeepLaws → (bytes : List ℕ) (asked : Task) (s t : Status) (x y : List ℕ) → IsTrue (is_answer s) → IsTrue (is_answer t)
     → Untold bytes asked s x → Untold bytes asked t y → (s ≡ t) × (x ≡ y)
-two_untold bytes asked s t x y is is' a b =
-    let same : a.set ≡ b.set = one_set bytes a.set b.set a.base.read b.base.read in
+two_untold laws bytes asked s t x y is is' a b =
+    let same : a.set ≡ b.set = one_set laws bytes a.set b.set a.base.read b.base.read in
     let P : List Statement → Type 0 = λ set. RefusesTask asked set s in
     same_line s t x y (one_reason asked b.set s t is is' (subst P same a.refuses) b.refuses) a.line b.line
 
-one_outcome : (bytes : List ℕ) (asked : Task) (s t : Status) (x y : List ℕ) → IsTrue (is_answer s) → IsTrue (is_answer t)
+one_outcome : KeepLaws → (bytes : List ℕ) (asked : Task) (s t : Status) (x y : List ℕ) → IsTrue (is_answer s) → IsTrue (is_answer t)
     → Outcome bytes asked s x → Outcome bytes asked t y → (s ≡ t) × (x ≡ y)
-one_outcome bytes asked s t x y is is' (inl a) (inl b) = two_told bytes asked s t x y a b
-one_outcome bytes asked s t x y is is' (inl a) (inr (inl b)) = absurd (base_or_refused bytes a.set t is' a.base b.refuses)
-one_outcome bytes asked s t x y is is' (inl a) (inr (inr b)) = absurd (told_or_untold bytes asked s t x y is' a b)
-one_outcome bytes asked s t x y is is' (inr (inl a)) (inl b) = absurd (base_or_refused bytes b.set s is b.base a.refuses)
-one_outcome bytes asked s t x y is is' (inr (inl a)) (inr (inl b)) = same_line s t x y (one_refusal bytes s t is is' a.refuses b.refuses) a.line b.line
-one_outcome bytes asked s t x y is is' (inr (inl a)) (inr (inr b)) = absurd (base_or_refused bytes b.set s is b.base a.refuses)
-one_outcome bytes asked s t x y is is' (inr (inr a)) (inl b) = absurd (told_or_untold bytes asked t s y x is b a)
-one_outcome bytes asked s t x y is is' (inr (inr a)) (inr (inl b)) = absurd (base_or_refused bytes a.set t is' a.base b.refuses)
-one_outcome bytes asked s t x y is is' (inr (inr a)) (inr (inr b)) = two_untold bytes asked s t x y is is' a b
+one_outcome laws bytes asked s t x y is is' (inl a) (inl b) = two_told laws bytes asked s t x y a b
+one_outcome laws bytes asked s t x y is is' (inl a) (inr (inl b)) = absurd (base_or_refused laws bytes a.set t is' a.base b.refuses)
+one_outcome laws bytes asked s t x y is is' (inl a) (inr (inr b)) = absurd (told_or_untold laws bytes asked s t x y is' a b)
+one_outcome laws bytes asked s t x y is is' (inr (inl a)) (inl b) = absurd (base_or_refused laws bytes b.set s is b.base a.refuses)
+one_outcome laws bytes asked s t x y is is' (inr (inl a)) (inr (inl b)) = same_line s t x y (one_refusal laws bytes s t is is' a.refuses b.refuses) a.line b.line
+one_outcome laws bytes asked s t x y is is' (inr (inl a)) (inr (inr b)) = absurd (base_or_refused laws bytes b.set s is b.base a.refuses)
+one_outcome laws bytes asked s t x y is is' (inr (inr a)) (inl b) = absurd (told_or_untold laws bytes asked t s y x is b a)
+one_outcome laws bytes asked s t x y is is' (inr (inr a)) (inr (inl b)) = absurd (base_or_refused laws bytes a.set t is' a.base b.refuses)
+one_outcome laws bytes asked s t x y is is' (inr (inr a)) (inr (inr b)) = two_untold laws bytes asked s t x y is is' a b
 
 -- an answer is that words are no command, or comes of a base and a task
 record IsUsage (words : List (List ℕ)) (s : Status) (x : List ℕ) : Type 0 where
@@ -170,8 +162,6 @@ found content words status.Usage x is a = inl (record { none = a.0; usage = refl
 found content words status.Limit x is a = inr (record { asks = a.0.0; outcome = inr (inl (record { refuses = a.0.1; line = a.1 })) })
 found content words (status.Document line why) x is a = inr (record { asks = a.0.0; outcome = inr (inl (record { refuses = a.0.1; line = a.1 })) })
 found content words (status.Profile rule subject) x is a = inr (record { asks = a.0.0; outcome = inr (inl (record { refuses = a.0.1; line = a.1 })) })
-found content words status.Later x is a =
-    inr (record { asks = a.0.0.asks; outcome = inr (inr (record { set = a.0.0.set; base = a.0.0.of_base; refuses = a.0.1; line = a.1 })) })
 found content words status.Asked x is a =
     inr (record { asks = a.0.0.asks; outcome = inr (inr (record { set = a.0.0.set; base = a.0.0.of_base; refuses = a.0.1; line = a.1 })) })
 found content words status.ReadFault x is a = let no : false ≡ true = is in absurd cc
@@ -181,18 +171,18 @@ found content words status.NoMemory x is a = let no : false ≡ true = is in abs
 no_command : (words : List (List ℕ)) → IsNoCommand words → Asks words → ⊥
 no_command words none asks = none asks.name asks.asked asks.command
 
-two_found : (content : List ℕ → List ℕ) (words : List (List ℕ)) (s t : Status) (x y : List ℕ) → IsTrue (is_answer s) → IsTrue (is_answer t)
+two_found : KeepLaws → (content : List ℕ → List ℕ) (words : List (List ℕ)) (s t : Status) (x y : List ℕ) → IsTrue (is_answer s) → IsTrue (is_answer t)
     → Found content words s x → Found content words t y → (s ≡ t) × (x ≡ y)
-two_found content words s t x y is is' (inl a) (inl b) = (a.usage ∙ sym b.usage, a.line ∙ sym b.line)
-two_found content words s t x y is is' (inl a) (inr b) = absurd (no_command words a.none b.asks)
-two_found content words s t x y is is' (inr a) (inl b) = absurd (no_command words b.none a.asks)
-two_found content words s t x y is is' (inr a) (inr b) =
+two_found laws content words s t x y is is' (inl a) (inl b) = (a.usage ∙ sym b.usage, a.line ∙ sym b.line)
+two_found laws content words s t x y is is' (inl a) (inr b) = absurd (no_command words a.none b.asks)
+two_found laws content words s t x y is is' (inr a) (inl b) = absurd (no_command words b.none a.asks)
+two_found laws content words s t x y is is' (inr a) (inr b) =
     let same = one_command words a.asks.name b.asks.name a.asks.asked b.asks.asked a.asks.command b.asks.command in
     let P : List ℕ → Type 0 = λ name. Outcome (content name) a.asks.asked s x in
     let Q : Task → Type 0 = λ asked. Outcome (content b.asks.name) asked s x in
-    one_outcome (content b.asks.name) b.asks.asked s t x y is is' (subst Q same.1 (subst P same.0 a.outcome)) b.outcome
+    one_outcome laws (content b.asks.name) b.asks.asked s t x y is is' (subst Q same.1 (subst P same.0 a.outcome)) b.outcome
 
 -- what the words ask for, and what the shelf tells of it, have one status and one text
-pub one_answer : (content : List ℕ → List ℕ) (words : List (List ℕ)) (a b : Status) (x y : List ℕ) → IsTrue (is_answer a) → IsTrue (is_answer b)
+pub one_answer : KeepLaws → (content : List ℕ → List ℕ) (words : List (List ℕ)) (a b : Status) (x y : List ℕ) → IsTrue (is_answer a) → IsTrue (is_answer b)
     → Answers (λ name. Some (content name)) words a x → Answers (λ name. Some (content name)) words b y → (a ≡ b) × (x ≡ y)
-one_answer content words a b x y is is' p q = two_found content words a b x y is is' (found content words a x is p) (found content words b y is' q)
+one_answer laws content words a b x y is is' p q = two_found laws content words a b x y is is' (found content words a x is p) (found content words b y is' q)

@@ -1,5 +1,5 @@
 -- From the walks through the graph of a base to its trace.
-use Rattle.std.proofs.Common.{◌≡◌, ◌↔◌, ℕ, List, Bool, true, false, IsTrue, Option, Some, None, cond, refl, ap, sym, subst, ◌∙◌}
+use Rattle.std.proofs.Common.{◌≡◌, ◌↔◌, ℕ, List, true, false, Option, Some, None, refl}
 use Rattle.cim_words.specs.declared.phases.Phase.{Phase}
 use Rattle.cim_words.specs.declared.phases.PhaseSet.{PhaseSet}
 use Rattle.cim_words.specs.declared.statement.Statement.{Statement}
@@ -8,7 +8,8 @@ use Rattle.cim_model.specs.Network.{is_equipment}
 use Rattle.cim_model.specs.Trace.{IsTrace, Row}
 use Rattle.graph_pages.specs.Graph.{GraphView, star_of}
 use Rattle.graph_pages.specs.Walks as graph
-use Rattle.link_rules.specs.Map.{IsMap, star, star_at}
+use Rattle.graph_pages.specs.declared.star.Star.{Star}
+use Rattle.link_rules.specs.Map.{IsMap, IsStarAt}
 
 -- a trace of the graph is one of the network, where both reach the same
 pub network_trace : (m : List Statement) (g : GraphView) (x : ℕ) (asked : PhaseSet) (rows : List Row) → ((y : ℕ) (p : Phase) → graph.IsReached g x asked y p ↔ network.IsReached m x asked y p)
@@ -21,16 +22,16 @@ network_trace m g x asked rows same trace = record {
 }
 
 -- the graph has a star of just the equipment
-starred : (m : List Statement) (x : ℕ) (b : Bool) → is_equipment m x ≡ b → star_at m x ≡ None → b ≡ false
-starred m x true is none = absurd (let some : Some (star m x) ≡ None = sym (ap (λ (c : Bool). cond c (Some (star m x)) None) is) ∙ none in cc)
-starred m x false is none = refl
+starless : (m : List Statement) (x : ℕ) (o : Option Star) → IsStarAt m x o → o ≡ None → is_equipment m x ≡ false
+starless m x None none is = none
+starless m x (Some found) some is = absurd cc
 
 pub no_star : (m : List Statement) (g : GraphView) (x : ℕ) → IsMap m g → star_of g x ≡ None → is_equipment m x ≡ false
-no_star m g x entries none = starred m x (is_equipment m x) refl (sym (entries.stars x) ∙ none)
+no_star m g x entries none = starless m x (star_of g x) (entries.stars x) none
 
-some_star : (m : List Statement) (x : ℕ) (b : Bool) → is_equipment m x ≡ b → (star_at m x ≡ None → ⊥) → b ≡ true
-some_star m x true is some = refl
-some_star m x false is some = absurd (some (ap (λ (c : Bool). cond c (Some (star m x)) None) is))
+starred : (m : List Statement) (x : ℕ) (o : Option Star) → IsStarAt m x o → (o ≡ None → ⊥) → is_equipment m x ≡ true
+starred m x None none some = absurd (some refl)
+starred m x (Some found) here some = here.0
 
 pub a_star : (m : List Statement) (g : GraphView) (x : ℕ) → IsMap m g → (star_of g x ≡ None → ⊥) → is_equipment m x ≡ true
-a_star m g x entries some = some_star m x (is_equipment m x) refl (λ none. some (entries.stars x ∙ none))
+a_star m g x entries some = starred m x (star_of g x) (entries.stars x) some

@@ -1,7 +1,6 @@
 pub mod Base
 pub mod CheckText
 pub mod Command
-pub mod Marks
 pub mod RefusalLine
 pub mod Run
 pub mod Status

@@ -1,7 +1,7 @@
 -- What the program answers: a status and a text, by the words of its command and by what the shelf tells.
 use Rattle.std.specs.Prelude.{ℕ, ◌≡◌, ◌⊎◌, List, [], length, Option, IfSome, Bool, true, false, IsTrue, Result, Ok, Err}
 use Rattle.cim_model.specs.Links.{IsReached}
-use Rattle.cim_model.specs.Network.{IsUnmarked, is_equipment}
+use Rattle.cim_model.specs.Network.{is_equipment}
 use Rattle.cim_model.specs.Trace.{IsTrace, Row}
 use Rattle.cim_words.specs.declared.phases.PhaseSet.{PhaseSet}
 use Rattle.cim_words.specs.declared.statement.Statement.{Statement}
@@ -20,7 +20,6 @@ use Rattle.room.specs.declared.task.Task.TheVariants as task
 use Rattle.room.specs.Base.{IsBase, RefusesBase}
 use Rattle.room.specs.CheckText.{check_text}
 use Rattle.room.specs.Command.{IsCommand}
-use Rattle.room.specs.Marks.{IsMarked}
 use Rattle.room.specs.Status.{status_line}
 use Rattle.room.specs.TraceText.{trace_text}
 
@@ -40,9 +39,8 @@ pub record Reads (told : List ℕ → Option (List ℕ)) (words : List (List ℕ
   pub set : List Statement
   pub of_base : IfSome (told asks.name) (λ bytes. IsBase bytes set)
 
--- the text is the trace of a network without cuts and clamps from a piece of its equipment
+-- the text is the trace of a network from a piece of its equipment
 pub record IsTraced (set : List Statement) (source : ℕ) (phases : PhaseSet) (text : List ℕ) : Type 0 where
-  pub unmarked : IsUnmarked set
   pub equipment : IsTrue (is_equipment set source)
   pub rows : List Row
   pub trace : IsTrace (IsReached set source phases) rows
@@ -53,10 +51,9 @@ abbrev pub Tells : Task → List Statement → List ℕ → Type 0
 Tells task.Check set text = text ≡ check_text (length set)
 Tells (task.Trace source phases) set text = IsTraced set source.number phases text
 
--- why a task tells nothing of a set: a trace knows no cuts and clamps so far, and begins at equipment
+-- why a task tells nothing of a set: a trace begins at equipment
 abbrev pub RefusesTrace : List Statement → ℕ → Status → Type 0
-RefusesTrace set source status.Later = IsMarked set
-RefusesTrace set source status.Asked = IsUnmarked set × (is_equipment set source ≡ false)
+RefusesTrace set source status.Asked = is_equipment set source ≡ false
 RefusesTrace set source status.NoMemory = Unit {0}
 RefusesTrace set source _ = ⊥
 
@@ -94,7 +91,6 @@ Answers told words (status.Document line why) text =
     HasNoBase told words (status.Document line why) × (text ≡ status_line (status.Document line why))
 Answers told words (status.Profile rule subject) text =
     HasNoBase told words (status.Profile rule subject) × (text ≡ status_line (status.Profile rule subject))
-Answers told words status.Later text = HasNoAnswer told words status.Later × (text ≡ status_line status.Later)
 Answers told words status.Asked text = HasNoAnswer told words status.Asked × (text ≡ status_line status.Asked)
 Answers told words status.NoMemory text = text ≡ []
 

@@ -7,7 +7,6 @@ mod check_text;
 mod command;
 mod file_shelf;
 mod laws;
-mod marks;
 mod out_sink;
 mod refusal_line;
 mod run;

@@ -45,7 +45,6 @@ pub(crate) fn refusal_line(alloc: Global, refusal: Status) -> Result<RefusalLine
         Status::Usage => "usage\n",
         Status::ReadFault => "read fault\n",
         Status::Limit => "limit\n",
-        Status::Later => "later\n",
         Status::Asked => "asked\n",
     };
     Ok(RefusalLine::Fixed(fixed))

@@ -33,8 +33,6 @@ pub enum Status {
         /// The subject.
         subject: Id,
     },
-    /// The base holds what a trace does not know yet.
-    Later,
     /// The source of a trace is no equipment of the base.
     Asked,
     /// The output could not be written.
@@ -107,7 +105,6 @@ impl Status {
             Status::Usage => 2,
             Status::ReadFault => 1,
             Status::Limit | Status::Document { .. } | Status::Profile { .. } => 3,
-            Status::Later => 8,
             Status::Asked => 4,
             Status::WriteFault => 5,
             Status::NoMemory => 6,

@@ -1,12 +1,10 @@
 //! The trace of a base.
 
 ghost use Rattle.std.specs.Prelude.{◌≡◌, IfErr, IfOk};
-ghost use Rattle.cim_model.specs.Network.{IsUnmarked};
 ghost use Rattle.cim_model.specs.Profile.{IsFaultless};
 ghost use Rattle.link_rules.specs.Map.{IsMap};
 ghost use Rattle.room.specs.Run.{IsTraced, RefusesTrace};
 
-use crate::marks::has_marks;
 use crate::status::Status;
 use crate::trace_text::write_trace;
 use cim_records::Index;
@@ -32,9 +30,6 @@ pub(crate) fn trace_of(
     ensures traced { IfOk result (λ text. IsTraced set.now source.number phases text.items) }
     ensures refused { IfErr result (RefusesTrace set.now source.number) }
 {
-    if has_marks(set.statements()) {
-        return Err(Status::Later);
-    }
     let index = Index::build(alloc, set)?;
     let graph = graph_of::<Brand>(alloc, &index, Blank::new(1))?;
     let mut tracer = Tracer::reserve(alloc, &graph)?;
@@ -47,7 +42,6 @@ pub(crate) fn trace_of(
 
 /// The graph of an untouched network. Nobody counts its steps.
 fn graph_of<L: Ledger>(alloc: Global, index: &Index, blank: Blank) -> Result<Graph, NoMemory>
-    requires unmarked { IsUnmarked index.now }
     requires name { blank.name ≡ L.name }
     requires parts { blank.parts ≡ L.parts }
     requires some { blank.parts ≡ 1 }

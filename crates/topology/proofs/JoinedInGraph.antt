@@ -1,15 +1,11 @@
 -- Points that are joined in the network of a model have pictures that are joined in its graph.
-use Rattle.std.proofs.Common.{◌≡◌, ℕ, inl, inr, List, [], ◌∷◌, map, true, false, IsTrue, Option, Some, None, Contains, option_map, refl, ap, sym, ◌∙◌, subst}
+use Rattle.std.proofs.Common.{◌≡◌, ℕ, inl, inr, List, true, false, IsTrue, Option, Some, None, option_map, refl, ap, sym, ◌∙◌, subst}
+use Rattle.std.specs.List.{filter_map}
 use Rattle.std.proofs.lemmas.Option.{same_Some}
 use Rattle.cim_model.specs.Links as network
 use Rattle.cim_model.specs.Model.{is_of}
-use Rattle.cim_model.specs.Network.{open_of, owner_of, segment_phases, terminals_by_side}
-use Rattle.cim_model.proofs.FaultlessTerminals.{node_is, owner_class}
-use Rattle.cim_model.proofs.ListMembers.{Among, among_map, contains_among}
-use Rattle.cim_model.proofs.SaidLemmas.{class_fails, class_passes}
-use Rattle.cim_model.proofs.TerminalSides.{owned_side}
+use Rattle.cim_model.specs.Network.{open_of, owner_of}
 use Rattle.cim_words.specs.Groups.{is_node, is_passing, is_segment, is_switch, is_transformer}
-use Rattle.cim_words.specs.Phases.{has_phase}
 use Rattle.cim_words.specs.declared.class.Class.{Class}
 use Rattle.cim_words.specs.declared.class.Class.TheVariants as class
 use Rattle.cim_words.specs.declared.statement.Statement.{Statement}
@@ -18,9 +14,14 @@ use Rattle.graph_pages.specs.Walks as graph
 use Rattle.graph_pages.specs.declared.star.Pass.{Pass}
 use Rattle.graph_pages.specs.declared.star.Pass.TheVariants as pass
 use Rattle.graph_pages.specs.declared.term.Term.{Term}
-use Rattle.link_rules.specs.Map.{AreMembers, IsEntry, at_node, pass_of, star, term}
+use Rattle.link_rules.specs.Map.{AreMembers, IsEntry, at_node, pass_of, star, term, term_at}
+use Rattle.segment_cuts.specs.declared.mark.Spot.{Spot}
+use Rattle.topology.proofs.LineLemmas.{line_along, segment_line, segment_star}
+use Rattle.topology.proofs.ModelLaws.{KeepsLaws, not_other}
 use Rattle.topology.proofs.PictureLemmas.{pictured, term_terminal}
-use Rattle.topology.proofs.SpokeLemmas.{IsGraphOf, line_is, listed_in_star, place_is, segment_line, star_is}
+use Rattle.topology.proofs.SectionLemmas.{owner_at, section_listed, terminal_listed}
+use Rattle.topology.proofs.SpokeLemmas.{IsGraphOf, listed_in_star, place_is, star_is}
+use Rattle.topology.proofs.SpotLemmas.{IsAlong, spot_along}
 
 -- ---- at a node
 
@@ -32,7 +33,7 @@ at_place_from : (m : List Statement) (g : GraphView) (y z : ℕ) (b d : network.
     → graph.AtPlace g (pictured y b) (pictured z d)
 at_place_from m g y z b d of_model owned owns joined =
     let n = joined.0 in
-    let are = node_members m n (members_of g (at_node n)) (of_model.entries.places (at_node n)) (node_is m b.terminal n of_model.faultless joined.1.0) in (
+    let are = node_members m n (members_of g (at_node n)) (of_model.entries.places (at_node n)) (of_model.laws.nodes n b.terminal joined.1.0) in (
       at_node n,
       place_is m g y b.terminal of_model owned ∙ ap (option_map at_node) joined.1.0,
       are.0,
@@ -57,46 +58,51 @@ transformer_alone : (c : Class) → is_transformer c ≡ true → (is_segment c 
 transformer_alone class.PowerTransformer h = (refl, refl, refl)
 transformer_alone _ h = absurd cc
 
-pass_of_switch : (m : List Statement) (g : GraphView) (y t : ℕ) → IsGraphOf m g → owner_of m t ≡ Some y → is_of m is_switch y ≡ true → pass_of m y ≡ pass.Switch (open_of m y)
-pass_of_switch m g y t of_model owned switch =
-    let c = owner_class m y t of_model.faultless owned in
-    let no_segment = class_fails m is_segment y c.0 c.1 (switch_no_segment c.0 (class_passes m is_switch y c.0 c.1 switch)) in
-    rw (no_segment, switch) refl
+pass_of_switch : (m : List Statement) (y : ℕ) (sections : List (List Spot)) → KeepsLaws m → is_of m is_switch y ≡ true → pass_of m y sections ≡ pass.Switch (open_of m y)
+pass_of_switch m y sections laws switch = rw (not_other m is_switch is_segment y laws switch_no_segment switch, switch) refl
 
-pass_of_passing : (m : List Statement) (g : GraphView) (y t : ℕ) → IsGraphOf m g → owner_of m t ≡ Some y → is_of m is_passing y ≡ true → pass_of m y ≡ pass.Same
-pass_of_passing m g y t of_model owned passing =
-    let c = owner_class m y t of_model.faultless owned in
-    let others = passing_alone c.0 (class_passes m is_passing y c.0 c.1 passing) in
-    rw (class_fails m is_segment y c.0 c.1 others.0, class_fails m is_switch y c.0 c.1 others.1, passing) refl
+pass_of_passing : (m : List Statement) (y : ℕ) (sections : List (List Spot)) → KeepsLaws m → is_of m is_passing y ≡ true → pass_of m y sections ≡ pass.Same
+pass_of_passing m y sections laws passing =
+    let no_segment = not_other m is_passing is_segment y laws (λ c is. (passing_alone c is).0) passing in
+    let no_switch = not_other m is_passing is_switch y laws (λ c is. (passing_alone c is).1) passing in
+    rw (no_segment, no_switch, passing) refl
 
-pass_of_transformer : (m : List Statement) (g : GraphView) (y t : ℕ) → IsGraphOf m g → owner_of m t ≡ Some y → is_of m is_transformer y ≡ true → pass_of m y ≡ pass.Transformer
-pass_of_transformer m g y t of_model owned transformer =
-    let c = owner_class m y t of_model.faultless owned in
-    let others = transformer_alone c.0 (class_passes m is_transformer y c.0 c.1 transformer) in
-    rw (class_fails m is_segment y c.0 c.1 others.0, class_fails m is_switch y c.0 c.1 others.1, class_fails m is_passing y c.0 c.1 others.2, transformer) refl
+pass_of_transformer : (m : List Statement) (y : ℕ) (sections : List (List Spot)) → KeepsLaws m → is_of m is_transformer y ≡ true → pass_of m y sections ≡ pass.Transformer
+pass_of_transformer m y sections laws transformer =
+    let no_segment = not_other m is_transformer is_segment y laws (λ c is. (transformer_alone c is).0) transformer in
+    let no_switch = not_other m is_transformer is_switch y laws (λ c is. (transformer_alone c is).1) transformer in
+    let no_passing = not_other m is_transformer is_passing y laws (λ c is. (transformer_alone c is).2) transformer in
+    rw (no_segment, no_switch, no_passing, transformer) refl
+
+-- ---- in a section of a segment
+
+in_section : (m : List Statement) (g : GraphView) (y z : ℕ) (b d : network.Point) → IsGraphOf m g → owner_of m b.terminal ≡ Some y → owner_of m d.terminal ≡ Some z → network.InSection m b d
+    → graph.InSection g (pictured y b) (pictured z d)
+in_section m g y z b d of_model owned owns (x, segment, (s, v, stands, other, share), held, same) =
+    let here = segment_star m g x of_model segment in
+    let along = subst (λ (n : ℕ). IsAlong m x n) (owner_at m x y b.terminal s of_model.laws owned stands) (spot_along m x s stands.on) in
+    let together = ((here.are segment).joined s v stands.on other.on).1 share in (
+      segment_line m x here.sections,
+      line_along m g x y b.terminal here of_model segment owned along,
+      filter_map (term_at m x) together.0,
+      section_listed m x here.sections together.0 together.1,
+      terminal_listed m x y b.terminal s together.0 of_model.laws owned stands together.2,
+      terminal_listed m x z d.terminal v together.0 of_model.laws owns other together.3,
+      held,
+      same,
+    )
 
 -- ---- between terminals of one piece of equipment
 
 star_passes : (m : List Statement) (g : GraphView) (y : ℕ) (b d : network.Point) (how : Pass) → IsGraphOf m g → owner_of m b.terminal ≡ Some y → owner_of m d.terminal ≡ Some y
-    → pass_of m y ≡ how → graph.Passes how (pictured y b) (pictured y d) → graph.ThroughStar g (pictured y b) (pictured y d)
+    → ((sections : List (List Spot)) → pass_of m y sections ≡ how) → graph.Passes how (pictured y b) (pictured y d) → graph.ThroughStar g (pictured y b) (pictured y d)
 star_passes m g y b d how of_model owned owns is passes =
-    (star m y, star_is m g y b.terminal of_model owned, listed_in_star m g y d.terminal of_model owns, subst (λ (one : Pass). graph.Passes one (pictured y b) (pictured y d)) (sym is) passes)
-
-on_segment : (m : List Statement) (y t : ℕ) → Among (terminals_by_side m y) t → Contains (map (term y) (terminals_by_side m y)) (term y t)
-on_segment m y t there = contains_among (map (term y) (terminals_by_side m y)) (term y t) (among_map (term y) (terminals_by_side m y) t there)
-
-in_section : (m : List Statement) (g : GraphView) (y : ℕ) (b d : network.Point) → IsGraphOf m g → owner_of m b.terminal ≡ Some y → owner_of m d.terminal ≡ Some y
-    → is_of m is_segment y ≡ true → IsTrue (has_phase (segment_phases m y) b.phase) → b.phase ≡ d.phase → graph.InSection g (pictured y b) (pictured y d)
-in_section m g y b d of_model owned owns segment held same = (
-  segment_line m y,
-  line_is m g y b.terminal of_model owned ∙ rw segment refl,
-  map (term y) (terminals_by_side m y),
-  contains_among (map (term y) (terminals_by_side m y) ∷ []) (map (term y) (terminals_by_side m y)) (inl refl),
-  on_segment m y b.terminal (owned_side m y b.terminal of_model.faultless of_model.unmarked owned),
-  on_segment m y d.terminal (owned_side m y d.terminal of_model.faultless of_model.unmarked owns),
-  held,
-  same,
-)
+    let own = star_is m g y b.terminal of_model owned in (
+      star m y own.sections,
+      own.found,
+      listed_in_star m g y d.terminal own.sections of_model owns,
+      subst (λ (one : Pass). graph.Passes one (pictured y b) (pictured y d)) (sym (is own.sections)) passes,
+    )
 
 -- the owner of a terminal is one
 one_owner : (m : List Statement) (t x y : ℕ) → owner_of m t ≡ Some x → owner_of m t ≡ Some y → x ≡ y
@@ -114,15 +120,13 @@ within m g Joins x y z b d owned owns of_x also joins then =
 pub pictures_joined : (m : List Statement) (g : GraphView) (y z : ℕ) (b d : network.Point) → IsGraphOf m g → owner_of m b.terminal ≡ Some y → owner_of m d.terminal ≡ Some z
     → network.Joined m b d → graph.Joined g (pictured y b) (pictured z d)
 pictures_joined m g y z b d of_model owned owns (inl at) = inl (at_place_from m g y z b d of_model owned owns at)
-pictures_joined m g y z b d of_model owned owns (inr (inl along)) =
-    within m g (λ (x : ℕ). IsTrue (is_of m is_segment x) × IsTrue (has_phase (segment_phases m x) b.phase)) along.0 y z b d owned owns along.1.1 along.1.2 (along.1.0, along.2)
-    (λ here h. inr (inl (in_section m g y b d of_model owned here h.0 h.1 along.3)))
+pictures_joined m g y z b d of_model owned owns (inr (inl along)) = inr (inl (in_section m g y z b d of_model owned owns along))
 pictures_joined m g y z b d of_model owned owns (inr (inr (inl through))) =
     within m g (λ (x : ℕ). IsTrue (is_of m is_switch x) × (open_of m x ≡ false)) through.0 y z b d owned owns through.1.1 through.1.2 (through.1.0, through.2)
-    (λ here h. inr (inr (star_passes m g y b d (pass.Switch (open_of m y)) of_model owned here (pass_of_switch m g y b.terminal of_model owned h.0) (h.1, through.3))))
+    (λ here h. inr (inr (star_passes m g y b d (pass.Switch (open_of m y)) of_model owned here (λ sections. pass_of_switch m y sections of_model.laws h.0) (h.1, through.3))))
 pictures_joined m g y z b d of_model owned owns (inr (inr (inr (inl through)))) =
     within m g (λ (x : ℕ). IsTrue (is_of m is_passing x)) through.0 y z b d owned owns through.1.1 through.1.2 through.1.0
-    (λ here h. inr (inr (star_passes m g y b d pass.Same of_model owned here (pass_of_passing m g y b.terminal of_model owned h) through.2)))
+    (λ here h. inr (inr (star_passes m g y b d pass.Same of_model owned here (λ sections. pass_of_passing m y sections of_model.laws h) through.2)))
 pictures_joined m g y z b d of_model owned owns (inr (inr (inr (inr through)))) =
     within m g (λ (x : ℕ). IsTrue (is_of m is_transformer x)) through.0 y z b d owned owns through.1.1 through.1.2 through.1.0
-    (λ here h. inr (inr (star_passes m g y b d pass.Transformer of_model owned here (pass_of_transformer m g y b.terminal of_model owned h) ((λ same. through.2 (term_terminal y y b.terminal d.terminal same)), through.3))))
+    (λ here h. inr (inr (star_passes m g y b d pass.Transformer of_model owned here (λ sections. pass_of_transformer m y sections of_model.laws h) ((λ same. through.2 (term_terminal y y b.terminal d.terminal same)), through.3))))

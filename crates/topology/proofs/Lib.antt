@@ -1,9 +1,17 @@
+mod EquipmentReached
 mod Gathered
+mod GraphMade
 mod JoinedInGraph
 mod JoinedInNetwork
+mod LineLemmas
+mod LookedUp
+mod ModelLaws
 mod PictureLemmas
 mod PlaceLists
+mod SectionLemmas
 mod SpokeLemmas
+mod SpotLemmas
 mod StarLists
+mod SubjectFilters
 mod WalkPictures
 mod WalksAreReach

@@ -4,9 +4,7 @@ use Rattle.cim_model.specs.Links as network
 use Rattle.cim_model.specs.Model.{is_of}
 use Rattle.cim_model.specs.Network.{owner_of}
 use Rattle.cim_model.specs.Phases.{no_phases}
-use Rattle.cim_model.specs.Profile.{IsFaultless}
 use Rattle.cim_model.specs.Reach.{Reaches}
-use Rattle.cim_model.proofs.FaultlessTerminals.{terminal_owned}
 use Rattle.cim_model.proofs.WalkInduction.{reaches_pictured}
 use Rattle.cim_words.specs.Groups.{is_terminal}
 use Rattle.cim_words.specs.Phases.{has_phase}
@@ -15,11 +13,11 @@ use Rattle.cim_words.specs.declared.phases.PhaseSet.{PhaseSet}
 use Rattle.cim_words.specs.declared.statement.Statement.{Statement}
 use Rattle.graph_pages.specs.Graph.{GraphView}
 use Rattle.graph_pages.specs.Walks as graph
-use Rattle.graph_pages.specs.declared.star.Star.{Star}
 use Rattle.graph_pages.specs.declared.term.Term.{Term}
 use Rattle.link_rules.specs.Map.{star, term}
 use Rattle.topology.proofs.JoinedInGraph.{pictures_joined}
 use Rattle.topology.proofs.JoinedInNetwork.{joined_from}
+use Rattle.topology.proofs.ModelLaws.{KeepsLaws, terminal_owned}
 use Rattle.topology.proofs.PictureLemmas.{pictured}
 use Rattle.topology.proofs.SpokeLemmas.{IsGraphOf, listed_in_star, no_phase_held, only_star, phases_are, star_is, star_lists, term_with_phase}
 
@@ -56,8 +54,8 @@ held_terminal : (held : PhaseSet) (p : Phase) (b : Bool) → IsTrue (has_phase (
 held_terminal held p true h = refl
 held_terminal held p false h = absurd (no_phase_held p h)
 
-point_owned : (m : List Statement) (b : network.Point) → IsFaultless m → network.IsPoint m b → (y : ℕ) × (owner_of m b.terminal ≡ Some y)
-point_owned m b faultless held = terminal_owned m b.terminal faultless (held_terminal _ b.phase (is_of m is_terminal b.terminal) held)
+point_owned : (m : List Statement) (b : network.Point) → KeepsLaws m → network.IsPoint m b → (y : ℕ) × (owner_of m b.terminal ≡ Some y)
+point_owned m b laws held = terminal_owned m b.terminal laws (held_terminal _ b.phase (is_of m is_terminal b.terminal) held)
 
 -- ---- from the graph to the network
 
@@ -81,8 +79,7 @@ start_in_network : (m : List Statement) (g : GraphView) (x : ℕ) (asked : Phase
     → (b : network.Point) × Pictures m a b × network.IsStart m x asked b
 unfolding point_at
 start_in_network m g x asked of_model a start =
-    let own : graph.HasSpoke (star m x) a.term = subst (λ (one : Star). graph.HasSpoke one a.term) (sym (only_star m g x start.star of_model start.of_source)) start.listed in
-    let t = star_lists m g x a.term of_model own in
+    let t = star_lists m g x start.star a.term of_model (only_star m g x start.star of_model start.of_source) start.listed in
     let shows : pictured x (record { terminal = t.0; phase = a.phase }) ≡ a = same_point (term x t.0) a.term a.phase t.2 in
     let point : graph.IsPoint g (pictured x (record { terminal = t.0; phase = a.phase })) = subst (graph.IsPoint g) (sym shows) start.point in (
       record { terminal = t.0; phase = a.phase },
@@ -107,7 +104,7 @@ link_to m g y z b d of_model owned owns linked = record {
 next_in_graph : (m : List Statement) (g : GraphView) → IsGraphOf m g → (b d : network.Point) (a : graph.Point) → Pictures m a b → network.Linked m b d
     → (c : graph.Point) × Pictures m c d × graph.Linked g a c
 next_in_graph m g of_model b d a picture linked =
-    let z = point_owned m d of_model.faultless linked.to in (
+    let z = point_owned m d of_model.laws linked.to in (
       pictured z.0 d,
       record { owner = z.0; owned = z.1; shows = refl },
       subst (λ (p : graph.Point). graph.Linked g p (pictured z.0 d)) picture.shows (link_to m g picture.owner z.0 b d of_model picture.owned z.1 linked),
@@ -115,17 +112,18 @@ next_in_graph m g of_model b d a picture linked =
 
 start_in_graph : (m : List Statement) (g : GraphView) (x : ℕ) (asked : PhaseSet) → IsGraphOf m g → (b : network.Point) → network.IsStart m x asked b
     → (a : graph.Point) × Pictures m a b × graph.IsStart g x asked a
-start_in_graph m g x asked of_model b start = (
-  pictured x b,
-  record { owner = x; owned = start.of_source; shows = refl },
-  record {
-    star = star m x;
-    of_source = star_is m g x b.terminal of_model start.of_source;
-    listed = listed_in_star m g x b.terminal of_model start.of_source;
-    point = picture_of_point m g x b of_model start.of_source start.point;
-    in_asked = start.asked;
-  },
-)
+start_in_graph m g x asked of_model b start =
+    let own = star_is m g x b.terminal of_model start.of_source in (
+      pictured x b,
+      record { owner = x; owned = start.of_source; shows = refl },
+      record {
+        star = star m x own.sections;
+        of_source = own.found;
+        listed = listed_in_star m g x b.terminal own.sections of_model start.of_source;
+        point = picture_of_point m g x b of_model start.of_source start.point;
+        in_asked = start.asked;
+      },
+    )
 
 pub walk_in_graph : (m : List Statement) (g : GraphView) (x : ℕ) (asked : PhaseSet) → IsGraphOf m g → (b : network.Point) → Reaches (network.Linked m) (network.IsStart m x asked) b
     → (a : graph.Point) × Pictures m a b × graph.Walks g x asked a

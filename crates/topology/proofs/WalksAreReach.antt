@@ -1,20 +1,18 @@
--- Walks through the graph of a model and reach through its network hold of the same terminals and equipment.
-use Rattle.std.proofs.Common.{◌≡◌, ℕ, inl, inr, List, Some, None, option_map, refl, ap, sym, ◌∙◌, subst}
+-- Walks through the graph of a model and reach through its network hold of the same terminals.
+use Rattle.std.proofs.Common.{◌≡◌, ℕ, List, Some, ap, sym, ◌∙◌, subst}
 use Rattle.std.proofs.lemmas.Option.{same_Some}
 use Rattle.cim_model.specs.Links as network
 use Rattle.cim_model.specs.Network.{owner_of}
 use Rattle.cim_model.specs.Reach.{Reaches}
-use Rattle.cim_words.specs.declared.identifier.Id.{Id}
 use Rattle.cim_words.specs.declared.phases.Phase.{Phase}
 use Rattle.cim_words.specs.declared.phases.PhaseSet.{PhaseSet}
 use Rattle.cim_words.specs.declared.statement.Statement.{Statement}
 use Rattle.graph_pages.specs.Graph.{GraphView}
 use Rattle.graph_pages.specs.Walks as graph
-use Rattle.graph_pages.specs.declared.star.Star.{Star}
 use Rattle.graph_pages.specs.declared.term.Term.{Term}
-use Rattle.link_rules.specs.Map.{star, term}
+use Rattle.link_rules.specs.Map.{term}
 use Rattle.topology.proofs.PictureLemmas.{pictured, term_terminal}
-use Rattle.topology.proofs.SpokeLemmas.{IsGraphOf, only_star}
+use Rattle.topology.proofs.SpokeLemmas.{IsGraphOf}
 use Rattle.topology.proofs.WalkPictures.{walk_in_graph, walk_in_network}
 
 point : ℕ → Phase → network.Point
@@ -45,28 +43,3 @@ reached_walked m g x asked y t p of_model owned reached =
     let a = walk_in_graph m g x asked of_model (record { terminal = t; phase = p }) reached in
     let same : a.1.owner ≡ y = same_Some a.1.owner y (sym a.1.owned ∙ owned) in
     subst (graph.Walks g x asked) (sym a.1.shows ∙ ap (λ (n : ℕ). pictured n (record { terminal = t; phase = p })) same) a.2
-
--- no equipment of the model stands on a segment
-counted_owner : (m : List Statement) (g : GraphView) (u : Term) (y : ℕ) (p : Phase) → IsGraphOf m g → graph.CountsFor g u y p → u.owner.number ≡ y
-counted_owner m g u y p of_model (inl owner) = owner
-counted_owner m g u y p of_model (inr stands) =
-    let here : star m u.owner.number ≡ stands.0 = only_star m g u.owner.number stands.0 of_model stands.1 in
-    let none : None ≡ Some y = ap (λ (one : Star). option_map (λ (on : Id). on.number) one.on) here ∙ stands.2 in
-    absurd cc
-
-pub reached_in_network : (m : List Statement) (g : GraphView) (x : ℕ) (asked : PhaseSet) (y : ℕ) (p : Phase) → IsGraphOf m g → graph.IsReached g x asked y p → network.IsReached m x asked y p
-reached_in_network m g x asked y p of_model reached =
-    let t = walked_real m g x asked reached.term p of_model reached.reached in
-    let walked : graph.Walks g x asked (record { term = term reached.term.owner.number t.0; phase = p }) = subst (λ (u : Term). graph.Walks g x asked (record { term = u; phase = p })) t.2 reached.reached in
-    record {
-      terminal = t.0;
-      of_equipment = t.1 ∙ ap (λ (n : ℕ). Some n) (counted_owner m g reached.term y p of_model reached.counts);
-      reached = walked_reached m g x asked reached.term.owner.number t.0 p of_model walked;
-    }
-
-pub reached_in_graph : (m : List Statement) (g : GraphView) (x : ℕ) (asked : PhaseSet) (y : ℕ) (p : Phase) → IsGraphOf m g → network.IsReached m x asked y p → graph.IsReached g x asked y p
-reached_in_graph m g x asked y p of_model reached = record {
-  term = term y reached.terminal;
-  counts = inl refl;
-  reached = reached_walked m g x asked y reached.terminal p of_model reached.of_equipment reached.reached;
-}

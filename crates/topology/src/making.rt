@@ -1,10 +1,12 @@
 //! Making the graph of a network.
 
-ghost use Rattle.std.specs.Prelude.{◌≡◌, ◌+◌, ◌≤◌, [], length, map, IfOk, OnOk};
-ghost use Rattle.cim_model.specs.Network.{IsUnmarked, equipment, nodes};
-ghost use Rattle.link_rules.specs.Map.{IsMap, star};
+ghost use Rattle.std.specs.Prelude.{◌≡◌, ◌+◌, ◌≤◌, [], length, IfOk, OnOk};
+ghost use Rattle.cim_model.specs.Network.{equipment, nodes};
+ghost use Rattle.link_rules.specs.Map.{IsMap};
 ghost use Rattle.topology.specs.Places.{HoldsNodes};
+ghost use Rattle.topology.specs.Stars.{HoldsStars};
 
+use cim_model::subjects_are_listed_once;
 use cim_records::Index;
 use cim_words::NoMemory;
 use graph_pages::{Graph, Members, Star};
@@ -14,20 +16,20 @@ use std::alloc::Global;
 use std::sync::ledger::Ledger;
 use step_count::Steps;
 
-/// The graph of the network of a model without cuts and clamps under an empty overlay, one tick for each star and place.
+/// The graph of the network of a model under an empty overlay, one tick for each star and place.
 pub fn rebuild<L: Ledger>(
     alloc: Global,
     index: &Index,
     overlay: &Overlay,
     steps: &mut Steps<L>,
 ) -> Result<Graph, NoMemory>
-    requires unmarked { IsUnmarked index.now }
     requires no_items { overlay.now.items ≡ [] }
     requires no_positions { overlay.now.positions ≡ [] }
     ensures map { IfOk result (IsMap index.now) }
     ensures ticks { OnOk result (steps.new ≡ steps.old + length (equipment index.now) + length (nodes index.now)) }
     ensures bound { steps.new ≤ steps.old + length (equipment index.now) + length (nodes index.now) }
 {
+    subjects_are_listed_once();
     let stars = stars_of(alloc, index, overlay)?;
     let places = places_of(alloc, index, overlay)?;
     Graph::build(alloc, stars, places, steps)
@@ -35,10 +37,9 @@ pub fn rebuild<L: Ledger>(
 
 /// The stars of all equipment, in ascending order.
 fn stars_of(alloc: Global, index: &Index, overlay: &Overlay) -> Result<Vec<Star>, NoMemory>
-    requires unmarked { IsUnmarked index.now }
     requires no_items { overlay.now.items ≡ [] }
     requires no_positions { overlay.now.positions ≡ [] }
-    ensures { IfOk result (λ stars. stars.items ≡ map (star index.now) (equipment index.now)) }
+    ensures { IfOk result (λ stars. HoldsStars index.now (equipment index.now) stars.items) }
 {
     let equipment = index.equipment();
     let mut stars = Vec::with_capacity(alloc, equipment.len())?;
@@ -57,7 +58,6 @@ fn places_of(
     index: &Index,
     overlay: &Overlay,
 ) -> Result<Vec<(Anchor, Members)>, NoMemory>
-    requires unmarked { IsUnmarked index.now }
     requires no_items { overlay.now.items ≡ [] }
     requires no_positions { overlay.now.positions ≡ [] }
     ensures { IfOk result (λ places. HoldsNodes index.now (nodes index.now) places.items) }

@@ -79,8 +79,9 @@ const TRANSFORMER: [(&str, &str, &str); 15] = [
 ];
 
 /// A cut of the segment in its middle.
-const CUT: [(&str, &str, &str); 9] = [
+const CUT: [(&str, &str, &str); 10] = [
     ("92", "a", "Cut"),
+    ("92", "IdentifiedObject.name", r#""Cut 1""#),
     ("92", "Cut.ACLineSegment", "~51"),
     ("92", "Cut.lengthFromTerminal1", r#""60""#),
     ("7d", "a", "Terminal"),
@@ -90,6 +91,9 @@ const CUT: [(&str, &str, &str); 9] = [
     ("7e", "Terminal.ConductingEquipment", "~92"),
     ("7e", "ACDCTerminal.sequenceNumber", r#""2""#),
 ];
+
+/// The cut is closed.
+const CLOSED: [(&str, &str, &str); 1] = [("92", "Switch.open", r#""false""#)];
 
 /// What a model may carry without effect: names with language tags, datatypes, a model's header and a transformer's end.
 const FURTHER: &str =
@@ -174,10 +178,16 @@ fn base(
             push_statement(&mut text, subject, prop, object)?;
         }
     }
-    for (subject, prop, object) in further {
-        push_statement(&mut text, subject, prop, object)?;
-    }
+    push_all(&mut text, further)?;
     Ok(text)
+}
+
+/// Appends the written forms of some statements.
+fn push_all(text: &mut String, statements: &[(&str, &str, &str)]) -> Result<(), NoMemory> {
+    for (subject, prop, object) in statements {
+        push_statement(text, subject, prop, object)?;
+    }
+    Ok(())
 }
 
 /// A line of one statement that has 65 bytes besides these letters.
@@ -190,13 +200,16 @@ fn long_line(alloc: Global, letters: usize) -> Result<String, NoMemory> {
     Ok(text)
 }
 
-/// Adds the first base as `b1`, with a lateral as `b2`, with a transformer as `b3`, with a cut as `b5`, without the consumer's
-/// terminal's equipment as `b0`, and with what a model may carry as `b9`.
+/// Adds the first base as `b1`, with a lateral as `b2`, with a transformer as `b3`, with a cut as `b5` and with the cut closed as
+/// `b6`, without the consumer's terminal's equipment as `b0`, and with what a model may carry as `b9`.
 fn add_bases(alloc: Global, files: &mut Files) -> Result<(), NoMemory> {
     files.add("b1", base(alloc, 99, &[])?.as_bytes())?;
     files.add("b2", base(alloc, 99, &LATERAL)?.as_bytes())?;
     files.add("b3", base(alloc, 99, &TRANSFORMER)?.as_bytes())?;
-    files.add("b5", base(alloc, 99, &CUT)?.as_bytes())?;
+    let mut cut = base(alloc, 99, &CUT)?;
+    files.add("b5", cut.as_bytes())?;
+    push_all(&mut cut, &CLOSED)?;
+    files.add("b6", cut.as_bytes())?;
     files.add("b0", base(alloc, 27, &[])?.as_bytes())?;
     let mut text = base(alloc, 99, &[])?;
     text.push_str(identified(alloc, FURTHER)?.as_str())?;
@@ -293,8 +306,25 @@ fn traces_and_refusals(rt: HostRuntime) -> Result<(), Fail> {
             0,
             "trace 0 2/~c2 s12N/~d1 s12N/",
         ),
-        ("trace b5 ~e1 ABC", Status::Later, 8, "later/"),
-        ("check b5", Status::Ok, 0, "ok 38/"),
+        ("check b5", Status::Ok, 0, "ok 39/"),
+        (
+            "trace b5 ~e1 ABC",
+            Status::Ok,
+            0,
+            "trace 0 4/~51 ABC/~92 ABC/~b1 ABC/~e1 ABC/",
+        ),
+        (
+            "trace b5 ~c1 ABC",
+            Status::Ok,
+            0,
+            "trace 0 3/~51 ABC/~92 ABC/~c1 ABC/",
+        ),
+        (
+            "trace b6 ~e1 ABC",
+            Status::Ok,
+            0,
+            "trace 0 5/~51 ABC/~92 ABC/~b1 ABC/~c1 ABC/~e1 ABC/",
+        ),
         ("trace b8 ~e1 ABC", Status::ReadFault, 1, "read fault/"),
         ("check b1", Status::Ok, 0, "ok 29/"),
         ("check empty", Status::Ok, 0, "ok 0/"),

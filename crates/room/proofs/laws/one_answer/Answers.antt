@@ -1,5 +1,16 @@
+use Rattle.room.proofs.LawsBelow.{KeepLaws}
 use Rattle.room.proofs.OneAnswer.{one_answer}
 use Rattle.room.proofs.laws.one_answer.Goals as goal
 
+-- the laws that are called here
+laws : goal.After-one_trace → KeepLaws
+laws c = record {
+  document = c.documents_have_one_reading.ensures.statements;
+  bad_line = c.documents_have_one_reading.ensures.bad_line;
+  either = c.documents_have_one_reading.ensures.either;
+  set = c.one_set.ensures;
+  trace = c.one_trace.ensures;
+}
+
 pub returns : goal.returns
-returns c = one_answer
+returns c = one_answer (laws c)

@@ -1,7 +1,7 @@
 //! Small networks, traced by the program and by a plain program of the rules.
 
 use super::plain::plain_rows;
-use super::{LATERAL, TRANSFORMER, base, spelled, words};
+use super::{CUT, LATERAL, TRANSFORMER, base, spelled, words};
 use crate::run::run_plain;
 use crate::status::Status;
 use cim_words::{Id, NoMemory, PhaseSet};
@@ -91,12 +91,107 @@ const BUSBAR: [(&str, &str, &str); 27] = [
     ("85", "ACDCTerminal.sequenceNumber", r#""1""#),
 ];
 
+/// A segment with marks that stand out of the order of their identifiers: a clamp at terminal 1 whose length is not stated, two
+/// clamps at one place of which one has a consumer and the other a neutral, a cut behind them that is open and has a source at its
+/// side 2, and a closed cut where the segment ends.
+const MARKS: [(&str, &str, &str); 48] = [
+    ("a4", "a", "ConnectivityNode"),
+    ("a5", "a", "ConnectivityNode"),
+    ("a6", "a", "ConnectivityNode"),
+    ("99", "a", "Clamp"),
+    ("99", "Clamp.ACLineSegment", "~51"),
+    ("80", "a", "Terminal"),
+    ("80", "Terminal.ConductingEquipment", "~99"),
+    ("80", "Terminal.ConnectivityNode", "~a6"),
+    ("96", "a", "Clamp"),
+    ("96", "Clamp.ACLineSegment", "~51"),
+    ("96", "Clamp.lengthFromTerminal1", r#""20.5""#),
+    ("81", "a", "Terminal"),
+    ("81", "Terminal.ConductingEquipment", "~96"),
+    ("81", "Terminal.phases", "PhaseCode.ABCN"),
+    ("95", "a", "Clamp"),
+    ("95", "Clamp.ACLineSegment", "~51"),
+    ("95", "Clamp.lengthFromTerminal1", r#""2.05e1""#),
+    ("82", "a", "Terminal"),
+    ("82", "Terminal.ConductingEquipment", "~95"),
+    ("82", "Terminal.ConnectivityNode", "~a4"),
+    ("c2", "a", "EnergyConsumer"),
+    ("83", "a", "Terminal"),
+    ("83", "Terminal.ConductingEquipment", "~c2"),
+    ("83", "Terminal.ConnectivityNode", "~a4"),
+    ("94", "a", "Cut"),
+    ("94", "Cut.ACLineSegment", "~51"),
+    ("94", "Cut.lengthFromTerminal1", r#""40""#),
+    ("84", "a", "Terminal"),
+    ("84", "Terminal.ConductingEquipment", "~94"),
+    ("84", "Terminal.ConnectivityNode", "~a5"),
+    ("84", "ACDCTerminal.sequenceNumber", r#""2""#),
+    ("85", "a", "Terminal"),
+    ("85", "Terminal.ConductingEquipment", "~94"),
+    ("85", "ACDCTerminal.sequenceNumber", r#""1""#),
+    ("e2", "a", "EnergySource"),
+    ("86", "a", "Terminal"),
+    ("86", "Terminal.ConductingEquipment", "~e2"),
+    ("86", "Terminal.ConnectivityNode", "~a5"),
+    ("93", "a", "Cut"),
+    ("93", "Cut.ACLineSegment", "~51"),
+    ("93", "Cut.lengthFromTerminal1", r#""100""#),
+    ("93", "Switch.normalOpen", r#""false""#),
+    ("87", "a", "Terminal"),
+    ("87", "Terminal.ConductingEquipment", "~93"),
+    ("87", "ACDCTerminal.sequenceNumber", r#""1""#),
+    ("88", "a", "Terminal"),
+    ("88", "Terminal.ConductingEquipment", "~93"),
+    ("88", "ACDCTerminal.sequenceNumber", r#""2""#),
+];
+
+/// Two cuts at both ends of a segment that carries two phases, and a clamp between them.
+const ENDS: [(&str, &str, &str); 30] = [
+    ("91", "a", "ACLineSegmentPhase"),
+    ("91", "ACLineSegmentPhase.ACLineSegment", "~51"),
+    ("91", "ACLineSegmentPhase.phase", "SinglePhaseKind.A"),
+    ("90", "a", "ACLineSegmentPhase"),
+    ("90", "ACLineSegmentPhase.ACLineSegment", "~51"),
+    ("90", "ACLineSegmentPhase.phase", "SinglePhaseKind.B"),
+    ("94", "a", "Cut"),
+    ("94", "Cut.ACLineSegment", "~51"),
+    ("94", "Switch.open", r#""false""#),
+    ("80", "a", "Terminal"),
+    ("80", "Terminal.ConductingEquipment", "~94"),
+    ("80", "ACDCTerminal.sequenceNumber", r#""1""#),
+    ("81", "a", "Terminal"),
+    ("81", "Terminal.ConductingEquipment", "~94"),
+    ("81", "ACDCTerminal.sequenceNumber", r#""2""#),
+    ("93", "a", "Cut"),
+    ("93", "Cut.ACLineSegment", "~51"),
+    ("93", "Cut.lengthFromTerminal1", r#""100""#),
+    ("82", "a", "Terminal"),
+    ("82", "Terminal.ConductingEquipment", "~93"),
+    ("82", "ACDCTerminal.sequenceNumber", r#""2""#),
+    ("83", "a", "Terminal"),
+    ("83", "Terminal.ConductingEquipment", "~93"),
+    ("83", "ACDCTerminal.sequenceNumber", r#""1""#),
+    ("95", "a", "Clamp"),
+    ("95", "Clamp.ACLineSegment", "~51"),
+    ("95", "Clamp.lengthFromTerminal1", r#""100e-1""#),
+    ("84", "a", "Terminal"),
+    ("84", "Terminal.ConductingEquipment", "~95"),
+    ("84", "Terminal.phases", "PhaseCode.BC"),
+];
+
 /// Where traces begin, and in which phases.
 const STARTS: [(u8, &str, &str); 4] = [
     (0xe1, "e1", "ABCN"),
     (0xc1, "c1", "AC"),
     (0x51, "51", "Bs12"),
     (0xb1, "b1", "ABC"),
+];
+
+/// The same on a segment with marks.
+const MARK_STARTS: [(u8, &str, &str); 3] = [
+    (0x93, "93", "AN"),
+    (0x94, "94", "ABC"),
+    (0x95, "95", "BCN"),
 ];
 
 /// The text of these rows.
@@ -153,10 +248,29 @@ fn plain_text(
     text_of(alloc, &plain_rows(alloc, set.statements(), source, phases)?)
 }
 
+/// Whether the program's trace of the first base with further statements is that of the plain program, from each start.
+fn are_plain(
+    alloc: Global,
+    further: &[(&str, &str, &str)],
+    starts: &[(u8, &str, &str)],
+) -> Result<bool, NoMemory> {
+    let base = base(alloc, 99, further)?;
+    for (digits, start, phases) in starts {
+        let source = Id::of(0x4000_8000_0000_0000_0000 | u128::from(*digits));
+        let asked = PhaseSet::read_text(phases).unwrap_or(PhaseSet::EMPTY);
+        let program = program_text(alloc, base.as_str(), start, phases)?;
+        let plain = plain_text(alloc, base.as_str(), source, asked)?;
+        if plain.is_empty() || program.written() != plain.as_slice() {
+            return Ok(false);
+        }
+    }
+    Ok(true)
+}
+
 #[test]
 fn traces_are_those_of_the_plain_program(rt: HostRuntime) -> Result<(), Fail> {
     let alloc = rt.alloc();
-    let networks: [&[(&str, &str, &str)]; 7] = [
+    let networks: [&[(&str, &str, &str)]; 10] = [
         &[],
         &LATERAL,
         &TRANSFORMER,
@@ -164,19 +278,14 @@ fn traces_are_those_of_the_plain_program(rt: HostRuntime) -> Result<(), Fail> {
         &SWITCHES,
         &PARTS,
         &BUSBAR,
+        &CUT,
+        &MARKS,
+        &ENDS,
     ];
-    for further in networks {
-        let base = base(alloc, 99, further)?;
-        for (digits, start, phases) in STARTS {
-            let source = Id::of(0x4000_8000_0000_0000_0000 | u128::from(digits));
-            let asked = PhaseSet::read_text(phases).unwrap_or(PhaseSet::EMPTY);
-            let program = program_text(alloc, base.as_str(), start, phases)?;
-            let plain = plain_text(alloc, base.as_str(), source, asked)?;
-            assert!(rt;
-                !plain.is_empty() && program.written() == plain.as_slice(),
-                "{start} {phases}"
-            );
-        }
+    for (number, further) in networks.iter().enumerate() {
+        assert!(rt; are_plain(alloc, further, &STARTS)?, "network {number}");
     }
+    assert!(rt; are_plain(alloc, &MARKS, &MARK_STARTS)?, "marks");
+    assert!(rt; are_plain(alloc, &ENDS, &MARK_STARTS)?, "marks at the ends");
     Ok(())
 }

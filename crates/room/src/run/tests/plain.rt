@@ -1,6 +1,6 @@
 //! A plain program of the rules of the network, which looks everything up in the list of statements: what the trace is compared with.
 
-use cim_words::{Class, Id, KnownProp, NoMemory, Object, Phase, PhaseSet, Prop, Statement};
+use cim_words::{Class, Id, KnownProp, Length, NoMemory, Object, Phase, PhaseSet, Prop, Statement};
 use std::alloc::Global;
 
 const PHASES: [Phase; 6] = [Phase::A, Phase::B, Phase::C, Phase::N, Phase::S1, Phase::S2];
@@ -14,7 +14,19 @@ struct Point {
     node: Option<Id>,
     class: Class,
     passes: bool,
+    stand: Option<Stand>,
     reached: bool,
+}
+
+/// How far from terminal 1 something stands on a segment, and whether before (0), at (1) or behind (2) what is at that length.
+type Spot = (u64, u8);
+
+/// Where on a segment a terminal stands, and whether the segment carries its phase.
+#[derive(Clone, Copy, Drop)]
+struct Stand {
+    segment: Id,
+    spot: Spot,
+    carries: bool,
 }
 
 /// What a subject says by a property.
@@ -45,6 +57,13 @@ fn is_said_true(statements: &[Statement], subject: Id, known: KnownProp) -> Opti
     match said(statements, subject, known)? {
         Object::Text(text) => Some(text.text() == "true" || text.text() == "1"),
         _ => None,
+    }
+}
+
+fn length_said(statements: &[Statement], subject: Id, known: KnownProp) -> u64 {
+    match said(statements, subject, known) {
+        Some(Object::Text(text)) => { Length::read(text.text()).map_or(0, |length| length.mm) }
+        _ => 0,
     }
 }
 
@@ -105,15 +124,85 @@ fn segment_phases(statements: &[Statement], segment: Id) -> PhaseSet {
 
 /// Whether a piece of equipment passes a phase from terminal to terminal, transformers aside.
 fn passes(statements: &[Statement], equipment: Id, class: Class, phase: Phase) -> bool {
-    if class.is_segment() {
-        return segment_phases(statements, equipment).has(phase);
-    }
     if class.is_switch() {
         let normally = is_said_true(statements, equipment, KnownProp::K6);
         let now = is_said_true(statements, equipment, KnownProp::K7);
-        return !now.or(normally).unwrap_or(false);
+        return !now.or(normally).unwrap_or(class.is_cut());
     }
     class.is_passing()
+}
+
+/// Whether a terminal is side 1 of what owns it: by its number, else as the one of lesser identifier.
+fn is_side_one(statements: &[Statement], owner: Id, terminal: Id) -> bool {
+    match said(statements, terminal, KnownProp::K5) {
+        Some(Object::Text(text)) => text.text() == "1",
+        _ => statements.iter().all(|statement| {
+            statement.subject >= terminal
+                || id_said(statements, statement.subject, KnownProp::K2) != Some(owner)
+        }),
+    }
+}
+
+/// The segment on which a cut or a clamp stands, and how far from terminal 1.
+fn mark_said(statements: &[Statement], mark: Id) -> Option<(Id, u64)> {
+    let (names, length) = match class_said(statements, mark) {
+        Class::Cut => (KnownProp::K11, KnownProp::K12),
+        Class::Clamp => (KnownProp::K9, KnownProp::K10),
+        _ => return None,
+    };
+    let segment = id_said(statements, mark, names)?;
+    Some((segment, length_said(statements, mark, length)))
+}
+
+/// Where a terminal stands: terminal 1 of a segment before all else, terminal 2 behind all else, a clamp at its length, and the
+/// sides of a cut around its length.
+fn stand_of(statements: &[Statement], owner: Id, terminal: Id, phase: Phase) -> Option<Stand> {
+    let is_one = is_side_one(statements, owner, terminal);
+    let (segment, spot) = match class_said(statements, owner) {
+        Class::ACLineSegment => (owner, if is_one { (0, 0) } else { (u64::MAX, 2) }),
+        class => {
+            let (segment, length) = mark_said(statements, owner)?;
+            let side = match class {
+                Class::Cut if is_one => 0,
+                Class::Cut => 2,
+                _ => 1,
+            };
+            (segment, (length, side))
+        }
+    };
+    Some(Stand {
+        segment,
+        spot,
+        carries: segment_phases(statements, segment).has(phase),
+    })
+}
+
+/// The cuts of the network, each with its segment and its length there.
+fn cuts_of(alloc: Global, statements: &[Statement]) -> Result<Vec<(Id, u64)>, NoMemory> {
+    let mut cuts = Vec::new(alloc);
+    for statement in statements {
+        let mark = statement.subject;
+        if statement.prop != Prop::Known(KnownProp::K1) || !class_said(statements, mark).is_cut() {
+            continue;
+        }
+        if let Some(cut) = mark_said(statements, mark) {
+            cuts.push(cut)?;
+        }
+    }
+    Ok(cuts)
+}
+
+/// Whether the first spot lies strictly between the others.
+fn lies_between(spot: Spot, a: Spot, b: Spot) -> bool {
+    a < spot && spot < b || b < spot && spot < a
+}
+
+/// Whether no cut of their segment lies between two terminals.
+fn in_one_section(cuts: &[(Id, u64)], a: Stand, b: Stand) -> bool {
+    a.segment == b.segment
+        && !cuts.iter().any(|(segment, length)| {
+            *segment == a.segment && lies_between((*length, 1), a.spot, b.spot)
+        })
 }
 
 /// The points of the network, with those marked at which a trace begins.
@@ -145,6 +234,7 @@ fn points(
                 node: id_said(statements, terminal, KnownProp::K3),
                 class,
                 passes: owner.is_some_and(|owner| passes(statements, owner, class, phase)),
+                stand: owner.and_then(|owner| stand_of(statements, owner, terminal, phase)),
                 reached: owner == Some(source) && asked.has(phase),
             })?;
         }
@@ -161,9 +251,14 @@ fn transforms(from: Phase, to: Phase) -> bool {
     }
 }
 
-fn are_linked(a: &Point, b: &Point) -> bool {
+fn are_linked(cuts: &[(Id, u64)], a: &Point, b: &Point) -> bool {
     if a.phase == b.phase && a.node.is_some() && a.node == b.node {
         return true;
+    }
+    if let (Some(here), Some(there)) = (a.stand, b.stand) {
+        if a.phase == b.phase && here.carries && in_one_section(cuts, here, there) {
+            return true;
+        }
     }
     if a.owner.is_none() || a.owner != b.owner {
         return false;
@@ -175,12 +270,12 @@ fn are_linked(a: &Point, b: &Point) -> bool {
 }
 
 /// The points with those marked too that are linked from a marked one.
-fn spread(alloc: Global, points: &[Point]) -> Result<Vec<Point>, NoMemory> {
+fn spread(alloc: Global, cuts: &[(Id, u64)], points: &[Point]) -> Result<Vec<Point>, NoMemory> {
     let mut next = Vec::new(alloc);
     for point in points {
         let linked = points
             .iter()
-            .any(|other| other.reached && are_linked(other, point));
+            .any(|other| other.reached && are_linked(cuts, other, point));
         next.push(Point {
             reached: point.reached || linked,
             ..*point
@@ -189,11 +284,19 @@ fn spread(alloc: Global, points: &[Point]) -> Result<Vec<Point>, NoMemory> {
     Ok(next)
 }
 
+/// Whether a point counts for a piece of equipment: its owner, and the segment on which it stands, where that carries its phase.
+fn counts_for(point: &Point, equipment: Id) -> bool {
+    point.owner == Some(equipment)
+        || point
+            .stand
+            .is_some_and(|stand| stand.carries && stand.segment == equipment)
+}
+
 /// The phases in which a piece of equipment is reached.
 fn reached_phases(points: &[Point], equipment: Id) -> PhaseSet {
     let mut phases = PhaseSet::EMPTY;
     for point in points {
-        if point.reached && point.owner == Some(equipment) {
+        if point.reached && counts_for(point, equipment) {
             phases = phases.join(only(point.phase));
         }
     }
@@ -218,9 +321,10 @@ pub(crate) fn plain_rows(
     source: Id,
     asked: PhaseSet,
 ) -> Result<Vec<(Id, PhaseSet)>, NoMemory> {
+    let cuts = cuts_of(alloc, statements)?;
     let mut points = points(alloc, statements, source, asked)?;
     for _ in 0..points.len() {
-        points = spread(alloc, &points)?;
+        points = spread(alloc, &cuts, &points)?;
     }
     let mut rows = Vec::new(alloc);
     for statement in statements {
