@@ -1,5 +1,5 @@
 #!/usr/bin/env bash
-# Checks bases that are made to be slow, each in one size and in twice that size, and prints the times and how they grow:
+# Checks and traces bases that are made to be slow, each in one size and in twice that size, and prints the times and how they grow:
 # bench/growth.sh [STATEMENTS] (of the larger size, 1,000,000 if left out). Twice the size should take little more than twice
 # the time.
 set -eu
@@ -63,6 +63,68 @@ def statements_in_any_order():
         yield [f'{subject(chance.getrandbits(48))} <http://x/p> "v" .']
 
 
+def source_at(node):
+    return [is_a(node, "ConnectivityNode"), is_a(subject(1), "EnergySource"), *at(subject(2), subject(1), 1, node)]
+
+
+def at(t, equipment, number, node):
+    return [*terminal(t, equipment, number), says(t, "Terminal.ConnectivityNode", node)]
+
+
+def full_nodes():
+    """Nodes with 1,024 terminals, joined by breakers."""
+    node = subject(3)
+    yield source_at(node)
+    for i in itertools.count(1):
+        first, before, node = 10_000 * i, node, subject(10_000 * i)
+        breaker = subject(first + 1)
+        grounds = [(subject(first + 10 + 2 * j), subject(first + 11 + 2 * j)) for j in range(1022)]
+        yield [
+            is_a(node, "ConnectivityNode"),
+            is_a(breaker, "Breaker"),
+            *at(subject(first + 2), breaker, 1, before),
+            *at(subject(first + 3), breaker, 2, node),
+            *(s for ground, t in grounds for s in (is_a(ground, "Ground"), *at(t, ground, 1, node))),
+        ]
+
+
+def segments_with(marks):
+    """Segments one behind another, with 256 marks each."""
+    node = subject(3)
+    yield source_at(node)
+    for i in itertools.count(1):
+        first, before, node = 10_000 * i, node, subject(10_000 * i)
+        segment = subject(first + 1)
+        yield [
+            is_a(node, "ConnectivityNode"),
+            is_a(segment, "ACLineSegment"),
+            *at(subject(first + 2), segment, 1, before),
+            *at(subject(first + 3), segment, 2, node),
+            *(s for j in range(256) for s in marks(segment, first + 10 + 4 * j, j)),
+        ]
+
+
+def clamp(segment, number, place):
+    mark = subject(number)
+    own = [is_a(mark, "Clamp"), says(mark, "Clamp.ACLineSegment", segment), says(mark, "Clamp.lengthFromTerminal1", f'"{place}"')]
+    return own + terminal(subject(number + 1), mark, 1)
+
+
+def closed_cut(segment, number, place):
+    mark = subject(number)
+    own = [is_a(mark, "Cut"), says(mark, "Cut.ACLineSegment", segment), says(mark, "Cut.lengthFromTerminal1", f'"{place}"')]
+    closed = [says(mark, "Switch.open", '"false"')]
+    return own + closed + terminal(subject(number + 1), mark, 1) + terminal(subject(number + 2), mark, 2)
+
+
+def clamped_segments():
+    return segments_with(clamp)
+
+
+def cut_segments():
+    return segments_with(closed_cut)
+
+
 def whole_groups(shape, size):
     written = 0
     for group in shape():
@@ -72,17 +134,24 @@ def whole_groups(shape, size):
         yield from group
 
 
-def seconds(shape, size):
+def seconds(shape, size, *task):
     with tempfile.NamedTemporaryFile("w", suffix=".nt") as file:
         file.writelines(line + "\n" for line in whole_groups(shape, size))
         file.flush()
         start = time.monotonic()
-        answer = subprocess.run([room, "check", file.name], stdout=subprocess.PIPE).stdout.decode().strip()
-        return time.monotonic() - start, answer
+        command, *rest = task or ("check",)
+        text = subprocess.run([room, command, file.name, *rest], stdout=subprocess.PIPE).stdout
+        return time.monotonic() - start, text.split(b"\n", 1)[0].decode()
+
+
+def compare(shape, *task):
+    half, _ = seconds(shape, most // 2, *task)
+    whole, answer = seconds(shape, most, *task)
+    print(f"{shape.__name__.replace('_', ' ')}: {half:.2f} s, twice the size {whole:.2f} s ({whole / half:.1f} times): {answer}")
 
 
 for shape in (cuts_of_one_segment, types_of_one_subject, numbers_of_one_terminal, terminals_at_one_node, statements_in_any_order):
-    half, _ = seconds(shape, most // 2)
-    whole, answer = seconds(shape, most)
-    print(f"{shape.__name__.replace('_', ' ')}: {half:.2f} s, twice the size {whole:.2f} s ({whole / half:.1f} times): {answer}")
+    compare(shape)
+for shape in (full_nodes, clamped_segments, cut_segments):
+    compare(shape, "trace", "00000000-0000-4000-8000-000000000001", "ABC")
 PYTHON
