@@ -59,6 +59,7 @@ fn read_opened<F: Read + Drop>(
     ensures within { OnOk result (length into.new.items ≤ cap) }
     ensures failed { IfErr opened (λ _. result ≡ Err ShelfFault.Failed) }
     ensures whole { OnOk result (IfOk opened (λ file. IfSome (F.remaining file) (λ bytes. into.new.items ≡ bytes))) }
+    ensures longer { IsErrOf result ShelfFault.Longer → IfOk opened (λ file. IfSome (F.remaining file) (λ bytes. cap < length bytes)) }
 {
     let Ok(mut file) = opened else {
         return Err(ShelfFault::Failed);
