@@ -4,7 +4,7 @@
 set -eu
 top="$(cd "$(dirname "${BASH_SOURCE[0]}")/.." && pwd)"
 command -v serdi > /dev/null || { echo "bench/check.sh: serdi is missing (Debian's package serdi)" >&2; exit 1; }
-"$top/bin/room" check "$1" > /dev/null
+"$top/bin/room" --prove
 python3 - "$top/crates/room/out/room" "$1" "${2:-5}" <<'PYTHON'
 import os, subprocess, sys, time
 

@@ -3,7 +3,7 @@
 # Where OTHER names another program, it is run with `trace BASE SOURCE` in the same run, must write the same, and the ratio is printed.
 set -eu
 top="$(cd "$(dirname "${BASH_SOURCE[0]}")/.." && pwd)"
-"$top/bin/room" trace "$1" "$2" "${3:-ABC}" > /dev/null
+"$top/bin/room" --prove
 python3 - "$top/crates/room/out/room" "${OTHER:-}" "$1" "$2" "${3:-ABC}" <<'PYTHON'
 import resource, subprocess, sys, time
 

@@ -1,37 +1,96 @@
 #!/usr/bin/env bash
-# Runs the commands of README.md beside this file and compares what they write.
-set -eu
+# Runs the commands of README.md beside this file, and the program where the outside is large, missing, full or closed.
+# Prints a line for each case, and fails where one is not as it should be.
+set -u
 here="$(cd "$(dirname "${BASH_SOURCE[0]}")" && pwd)"
 room="$here/../bin/room"
-diff "$here/ieee_13_node.txt" <("$room" trace "$here/ieee_13_node.nt" 00000013-0000-4000-8005-000000000115 ABC)
-diff <(echo 'ok 435') <("$room" check "$here/ieee_13_node.nt")
-diff <(echo 'ok 29') <("$room" check "$here/first_feeder.nt")
-diff <(echo 'ok 32') <("$room" check "$here/first_feeder_otherwise.nt")
-source=00000000-0000-4000-8000-0000000000e1
-diff <("$room" trace "$here/first_feeder.nt" "$source" ABC) <("$room" trace "$here/first_feeder_otherwise.nt" "$source" ABC)
-with_cut="$here/first_feeder_with_cut.nt"
+folder="$(mktemp -d)"
+trap 'rm -rf "$folder"' EXIT
+failed=0
+
+# Prints the line of a case: its name, and what became of it.
+tell() {
+    if [ "$2" = 0 ]; then
+        echo "$1: as it should be"
+    else
+        echo "$1: WRONG"
+        failed=1
+    fi
+}
+
+# A case: the program, run with these words, exits with this code, and writes what stands in this file.
+writes() {
+    local name="$1" code="$2" wanted="$3" given=0 wrong=0
+    shift 3
+    "$room" "$@" > "$folder/written" || given=$?
+    [ "$given" = "$code" ] && cmp -s "$wanted" "$folder/written" || wrong=1
+    tell "$name" "$wrong"
+}
+
+# A case in which nothing can be written: the program, run with these words, exits with this code over the full disk, and where its
+# output is closed.
+cannot_write() {
+    local name="$1" code="$2" full=0 closed=0 wrong=0
+    shift 2
+    "$room" "$@" > /dev/full 2> "$folder/errors" || full=$?
+    "$room" "$@" >&- 2>> "$folder/errors" || closed=$?
+    [ "$full" = "$code" ] || wrong=1
+    tell "$name, to a full disk" "$wrong"
+    wrong=0
+    [ "$closed" = "$code" ] || wrong=1
+    tell "$name, to a closed output" "$wrong"
+}
+
 # The pieces of equipment that these reach, each in A, B and C, by the ends of their identifiers.
 reached() {
     echo "trace 0 $#"
     for end in "$@"; do echo "00000000-0000-4000-8000-0000000000$end ABC"; done
 }
-diff <(echo 'ok 39') <("$room" check "$with_cut")
-diff <(reached 51 92 b1 e1) <("$room" trace "$with_cut" "$source" ABC)
-diff <(reached 51 92 c1) <("$room" trace "$with_cut" 00000000-0000-4000-8000-0000000000c1 ABC)
-closed="$(mktemp)"
-trap 'rm -f "$closed"' EXIT
-cp "$with_cut" "$closed"
-echo '<urn:uuid:00000000-0000-4000-8000-000000000092> <http://iec.ch/TC57/CIM100#Switch.open> "false" .' >> "$closed"
-diff <(reached 51 92 b1 c1 e1) <("$room" trace "$closed" "$source" ABC)
-# A refusal tells itself by its line and by the status of the program.
-refused() {
-    local line="$1" code="$2" given=0
-    shift 2
-    diff <(echo "$line") <("$room" "$@")
-    "$room" "$@" > /dev/null || given=$?
-    [ "$given" = "$code" ]
+
+# The first feeder, behind this many names of its segment.
+named() {
+    local segment='<urn:uuid:00000000-0000-4000-8000-000000000051>' name='<http://iec.ch/TC57/CIM100#IdentifiedObject.name>'
+    seq "$1" | sed "s|.*|$segment $name \"Line &\" .|"
+    cat "$here/first_feeder.nt"
 }
-refused asked 4 trace "$here/first_feeder.nt" 00000000-0000-4000-8000-0000000000a1 ABC
-refused 'read fault' 1 check "$here/no_such_file.nt"
-refused usage 2 check
-echo "the examples write what they should"
+
+source=00000000-0000-4000-8000-0000000000e1
+consumer=00000000-0000-4000-8000-0000000000c1
+first="$here/first_feeder.nt"
+otherwise="$here/first_feeder_otherwise.nt"
+with_cut="$here/first_feeder_with_cut.nt"
+ieee="$here/ieee_13_node.nt"
+
+writes 'trace of the IEEE feeder' 0 "$here/ieee_13_node.txt" trace "$ieee" 00000013-0000-4000-8005-000000000115 ABC
+writes 'check of the IEEE feeder' 0 <(echo 'ok 435') check "$ieee"
+writes 'check of the first feeder' 0 <(echo 'ok 29') check "$first"
+writes 'trace of the first feeder' 0 <(reached 51 b1 c1 e1) trace "$first" "$source" ABC
+writes 'check of the first feeder as another tool writes it' 0 <(echo 'ok 32') check "$otherwise"
+writes 'trace of the first feeder as another tool writes it' 0 <(reached 51 b1 c1 e1) trace "$otherwise" "$source" ABC
+writes 'check of the feeder with a cut' 0 <(echo 'ok 39') check "$with_cut"
+writes 'trace up to the open cut' 0 <(reached 51 92 b1 e1) trace "$with_cut" "$source" ABC
+writes 'trace to the open cut from behind' 0 <(reached 51 92 c1) trace "$with_cut" "$consumer" ABC
+cp "$with_cut" "$folder/closed.nt"
+echo '<urn:uuid:00000000-0000-4000-8000-000000000092> <http://iec.ch/TC57/CIM100#Switch.open> "false" .' >> "$folder/closed.nt"
+writes 'trace through the closed cut' 0 <(reached 51 92 b1 c1 e1) trace "$folder/closed.nt" "$source" ABC
+
+# A refusal tells itself by its line and by the code with which the program exits.
+writes 'a source that is no equipment' 4 <(echo asked) trace "$first" 00000000-0000-4000-8000-0000000000a1 ABC
+writes 'words that are no command' 2 <(echo usage) check
+writes 'no words' 2 <(echo usage)
+writes 'words that are no text' 2 <(echo usage) check "$first"$'\xff'
+writes 'a missing file' 1 <(echo 'read fault') check "$folder/no_such_file.nt"
+writes 'a folder in place of a file' 1 <(echo 'read fault') trace "$folder" "$source" ABC
+
+# More than is read, or written, at once.
+named 10000 > "$folder/named.nt"
+writes 'check of a base of more than a million bytes' 0 <(echo 'ok 10029') check "$folder/named.nt"
+writes 'trace of a base of more than a million bytes' 0 <(reached 51 b1 c1 e1) trace "$folder/named.nt" "$source" ABC
+truncate -s 268435457 "$folder/large.nt"
+writes 'check of a file of one byte too many' 3 <(echo limit) check "$folder/large.nt"
+writes 'trace of a file of one byte too many' 3 <(echo limit) trace "$folder/large.nt" "$source" ABC
+
+cannot_write 'a check' 5 check "$first"
+cannot_write 'a trace' 5 trace "$first" "$source" ABC
+cannot_write 'a refusal' 1 check "$folder/no_such_file.nt"
+exit "$failed"

@@ -11,8 +11,6 @@ mod reader;
 mod rule;
 mod shares;
 mod slots;
-#[cfg(test)]
-mod tests;
 mod views;
 mod word;
 mod writer;

@@ -31,7 +31,7 @@ differ : (m : List Statement) (x : ℕ) → AllPairs (λ y z. y ≢ z) (standing
 unfolding standing
 differ m x = different_kept (is_on m x) (subjects m) (distinct_subjects m)
 
-is_this : (x : ℕ) (o : Option ℕ) → is_some_number x o ≡ true → o ≡ Some x
+pub is_this : (x : ℕ) (o : Option ℕ) → is_some_number x o ≡ true → o ≡ Some x
 is_this x None is = absurd cc
 is_this x (Some y) is = ap (λ (n : ℕ). Some n) (same_number y x is)
 

@@ -17,7 +17,7 @@ pairs_map R f (x ∷ xs) pairs i j d less below =
     rw (get_or-map f (x ∷ xs) i x d first, get_or-map f (x ∷ xs) j x d last) (pairs i j x less last)
 
 -- a relation follows from another one where it does for elements
-among_index : {X : Type 0} (xs : List X) (i : ℕ) (d : X) → i < length xs → Among xs (get_or xs i d)
+pub among_index : {X : Type 0} (xs : List X) (i : ℕ) (d : X) → i < length xs → Among xs (get_or xs i d)
 among_index xs i d below = among_contained xs (get_or xs i d) (i, below, get_or_default xs i (get_or xs i d) d below)
 
 pub pairs_follow : {X : Type 0} (S R : X → X → Type 0) (xs : List X) → ((x y : X) → Among xs x → Among xs y → S x y → R x y) → AllPairs S xs → AllPairs R xs

@@ -1,5 +1,5 @@
 -- The statements about one subject stand together at the front of an ordered list.
-use Rattle.std.proofs.Common.{◌≡◌, ℕ, ◌+◌, ◌<◌, ◌≤◌, ◌==◌, List, [], ◌∷◌, ◌++◌, length, take, drop, get_or, Bool, true, false, ◌||◌, cond, ◌⊎◌, inl, inr, refl, ap, sym, subst, ◌∙◌, rules, arith, add_comm, add-one, true≢false}
+use Rattle.std.proofs.Common.{◌≡◌, ℕ, ◌+◌, ◌<◌, ◌≤◌, ◌==◌, List, [], ◌∷◌, ◌++◌, take, drop, Bool, true, false, ◌||◌, cond, ◌⊎◌, inl, inr, refl, ap, sym, subst, ◌∙◌, rules, arith, add_comm, add-one, true≢false}
 use Rattle.std.specs.List.{filter, list_any, prefix_len, AllByRecursion}
 use Rattle.std.specs.List.Sorted.{IsStrictlySortedBy}
 use Rattle.std.specs.Ordering.{nat_cmp, ordering_then}
@@ -7,12 +7,10 @@ use Rattle.std.specs.declared.cmp.Ordering.{Ordering}
 use Rattle.std.specs.declared.cmp.Ordering.TheVariants.{Less, Equal, Greater}
 use Rattle.std.proofs.lemmas.Bool.Decides.{nat_tests}
 use Rattle.std.proofs.lemmas.List.Elements.{filter-append}
-use Rattle.std.proofs.lemmas.List.Sums.{prefix_len-le-length}
 use Rattle.cim_words.specs.Order.{statement_order, prop_order, object_order}
 use Rattle.cim_words.specs.declared.statement.Statement.{Statement}
 use Rattle.statement_set.specs.Set.{IsOrdered}
 use Rattle.cim_model.specs.Model.{about, is_about, is_subject}
-use Rattle.cim_model.specs.Runs.{run_of}
 
 -- ---- the front that passes a test, and what stands after it
 
@@ -153,14 +151,6 @@ run_subject x y (t ∷ more) h = subject_one x y t (front (is_about x) more) (is
 pub run_has : (s : Statement) (more : List Statement) → is_subject (front (is_about s.subject.number) (s ∷ more)) s.subject.number ≡ true
 run_has s more = rw (number_itself s.subject.number) (or_left _ _ (number_itself s.subject.number))
 
-pub run_within : (rest : List Statement) → run_of rest ≤ length rest
-run_within [] = omega arith
-run_within (s ∷ rest) = prefix_len-le-length (is_about s.subject.number) (s ∷ rest)
-
-pub run_some : (rest : List Statement) → 1 ≤ length rest → 0 < run_of rest
-run_some [] some = absurd (omega arith)
-run_some (s ∷ rest) some = rw (number_itself s.subject.number) (omega arith)
-
 -- a run among earlier and later subjects is all that is said of its own
 pub about_run : (m done rest : List Statement) (x : ℕ) → done ++ rest ≡ m → is_subject done x ≡ false → is_subject (past (is_about x) rest) x ≡ false → front (is_about x) rest ≡ about m x
 about_run m done rest x whole none after = sym (
@@ -171,7 +161,3 @@ about_run m done rest x whole none after = sym (
     ∙ filter-append (is_about x) (front (is_about x) rest) (past (is_about x) rest)
     ∙ rw (filter_front (is_about x) rest, filter_none (is_about x) (past (is_about x) rest) after) (search rules)
     )
-
-pub run_is : (rest : List Statement) (first : Statement) → 1 ≤ length rest → first ≡ get_or rest 0 first → prefix_len (is_about first.subject.number) rest ≡ run_of rest
-run_is [] first some is = absurd (omega arith)
-run_is (s ∷ rest) first some is = ap (λ (t : Statement). prefix_len (is_about t.subject.number) (s ∷ rest)) is

@@ -1,11 +1,14 @@
+pub mod Limits
 pub mod Links
+pub mod Live
 pub mod Marks
 pub mod Model
 pub mod Network
 pub mod Phases
 pub mod Profile
 pub mod Reach
-pub mod Runs
+pub mod Sections
+pub mod Stands
 pub mod Stated
 pub mod Trace
 pub mod Values

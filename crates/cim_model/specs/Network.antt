@@ -1,6 +1,6 @@
 -- The network that a model states: classes, terminals, nodes, positions and phases, read off the list of its statements
 -- (IEC 61970-301: a Terminal joins one piece of ConductingEquipment to a ConnectivityNode).
-use Rattle.std.specs.Prelude.{ℕ, ◌≡◌, List, [], ◌∷◌, ◌++◌, map, Bool, false, not, ◌&&◌, ◌||◌, ◌==◌, if◌then◌else◌, Option, Some, None, is_some, unwrap_or}
+use Rattle.std.specs.Prelude.{ℕ, List, [], ◌∷◌, ◌++◌, map, Bool, false, not, ◌&&◌, ◌||◌, ◌==◌, if◌then◌else◌, Option, Some, None, is_some, unwrap_or}
 use Rattle.std.specs.List.{filter, filter_map, list_any}
 use Rattle.cim_words.specs.Groups.{is_terminal, is_node, is_segment, is_cut, is_equipment_class}
 use Rattle.cim_words.specs.declared.class.Class.{Class}

@@ -1,19 +1,24 @@
 //! Laws of models, most of them of models without fault.
 
-ghost use Rattle.std.specs.Prelude.{◌≡◌, ◌↔◌, ℕ, List, Bool, ◌||◌, IsTrue, None, Some, is_some, nat_eq, Contains};
+ghost use Rattle.std.specs.Prelude.{◌≡◌, ◌↔◌, ℕ, List, Bool, ◌||◌, IsTrue, None, Some, is_some, map, nat_eq, Contains};
 ghost use Rattle.std.specs.List.{IsDistinct};
+ghost use Rattle.std.specs.List.Sorted.{IsStrictlyIncreasing};
+ghost use Rattle.statement_set.specs.Set.{IsOrdered};
 ghost use Rattle.cim_words.specs.Groups.{is_clamp, is_cut, is_node, is_segment, is_terminal};
 ghost use Rattle.cim_words.specs.declared.class.Class.{Class};
 ghost use Rattle.cim_words.specs.declared.statement.Statement.{Statement};
 ghost use Rattle.cim_model.specs.Model.{is_of, is_subject, subjects};
-ghost use Rattle.cim_model.specs.Network.{class_in, is_class, is_equipment, node_of, owner_of, segment_of, terminals_by_side};
+ghost use Rattle.cim_model.specs.Network.{class_in, equipment, is_class, is_equipment, node_of, nodes, owner_of, segment_of, terminals_by_side};
 ghost use Rattle.cim_model.specs.Profile.{IsFaultless};
 ghost use Rattle.cim_words.specs.declared.phases.PhaseSet.{PhaseSet};
-ghost use Rattle.cim_model.specs.Links.{IsReached};
+ghost use Rattle.cim_model.specs.Links.{network};
+ghost use Rattle.cim_model.specs.Reach.{IsReached};
+ghost use Rattle.room_words.specs.declared.overlay.Overlay.{Overlay};
 ghost use Rattle.cim_model.specs.Marks.{marks_of};
 ghost use Rattle.cim_model.specs.Trace.{IsTrace, Row};
 ghost use Rattle.cim_model.specs.Stated.{terminals_at, terminals_of};
 ghost use Rattle.segment_cuts.specs.Sections.{AreMarks};
+ghost use Rattle.segment_cuts.specs.declared.mark.Mark.{Mark};
 
 /// The subjects of a model are listed each once: just the identifiers that a statement is about, and so all that are of some class.
 pub fn subjects_are_listed_once()
@@ -51,12 +56,22 @@ pub fn marks_stand_on_segments()
     ensures alone { (m : List Statement) (x : ℕ) → IsFaultless m → IsTrue (is_of m is_segment x) → segment_of m x ≡ None }
 {}
 
-/// A trace of a network has one list of rows.
+/// A trace of a live network has one list of rows.
 pub fn one_trace()
-    ensures { (m : List Statement) (x : ℕ) (phases : PhaseSet) (a b : List Row) → IsTrace (IsReached m x phases) a → IsTrace (IsReached m x phases) b → a ≡ b }
+    ensures { (m : List Statement) (o : Overlay) (x : ℕ) (phases : PhaseSet) (a b : List Row)
+        → IsTrace (IsReached (network m o) x phases) a → IsTrace (IsReached (network m o) x phases) b → a ≡ b }
 {}
 
 /// In a model without fault the cuts and clamps of a segment are marks of a line: few, within it, and no cut at the place of another.
 pub fn marks_divide_segments()
     ensures { (m : List Statement) (x : ℕ) → IsFaultless m → AreMarks (marks_of m x) }
+{}
+
+/// In an ordered model subjects, equipment, nodes, the terminals at a node and the marks of a segment ascend by identifier.
+pub fn ordered_models_ascend()
+    ensures subjects { (m : List Statement) → IsOrdered m → IsStrictlyIncreasing (subjects m) }
+    ensures equipment { (m : List Statement) → IsOrdered m → IsStrictlyIncreasing (equipment m) }
+    ensures nodes { (m : List Statement) → IsOrdered m → IsStrictlyIncreasing (nodes m) }
+    ensures terminals { (m : List Statement) (n : ℕ) → IsOrdered m → IsStrictlyIncreasing (terminals_at m n) }
+    ensures marks { (m : List Statement) (x : ℕ) → IsOrdered m → IsStrictlyIncreasing (map (λ (mark : Mark). mark.id.number) (marks_of m x)) }
 {}

@@ -1,8 +1,8 @@
 -- Tests of what a subject's statements say.
-use Rattle.std.proofs.Common.{◌≡◌, ℕ, ◌<◌, ◌≤◌, List, length, take, get_or, Bool, true, false, cond, ◌&&◌, None, refl, ap, sym, ◌∙◌}
+use Rattle.std.proofs.Common.{◌≡◌, ℕ, ◌+◌, ◌<◌, ◌≤◌, List, length, take, get_or, Bool, true, false, cond, ◌&&◌, None, refl, ap, sym, ◌∙◌}
 use Rattle.std.specs.List.{filter_map, list_any}
 use Rattle.std.proofs.lemmas.List.{take_all}
-use Rattle.std.proofs.lemmas.List.Folds.{list_any_at}
+use Rattle.std.proofs.lemmas.List.Folds.{list_any_at, list_any_more}
 use Rattle.cim_words.specs.declared.known_prop.KnownProp.{KnownProp}
 use Rattle.cim_words.specs.declared.object.Object.{Object}
 use Rattle.cim_words.specs.declared.statement.Statement.{Statement}
@@ -36,6 +36,9 @@ any_here p xs i x within is passes = list_any_at p xs i x within (ap p (sym is) 
 
 pub any_nowhere : {X : Type 0} (p : X → Bool) (xs : List X) (i : ℕ) → length xs ≤ i → list_any p (take i xs) ≡ false → list_any p xs ≡ false
 any_nowhere p xs i all none = ap (list_any p) (sym (take_all i xs all)) ∙ none
+
+pub any_past : {X : Type 0} (p : X → Bool) (xs : List X) (i : ℕ) (x : X) → i < length xs → x ≡ get_or xs i x → p x ≡ false → list_any p (take i xs) ≡ false → list_any p (take (i + 1) xs) ≡ false
+any_past p xs i x within is fails none = list_any_more p xs i x within ∙ rw (none, ← is) fails
 
 -- whether a mark lies wrongly along a segment that one of its statements names, with its lengths in either form
 pub misplaced_is : (m : List Statement) (k : MarkKind) (x : ℕ) (statements : List Statement) (lengths : List ℕ) → statements ≡ about m x → lengths ≡ mark_lengths m k x → is_mark m k x ≡ true

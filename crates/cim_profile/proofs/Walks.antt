@@ -7,9 +7,10 @@ use Rattle.std.proofs.lemmas.List.Folds.{list_any-append}
 use Rattle.cim_profile.specs.FirstBreak.{IsAtMost}
 use Rattle.cim_words.specs.declared.identifier.Id.{Id}
 use Rattle.cim_words.specs.declared.statement.Statement.{Statement}
+use Rattle.statement_set.specs.Runs.{first_subject, TakesSubject}
 use Rattle.statement_set.specs.Set.{IsOrdered}
+use Rattle.statement_set.proofs.Runs.{taken_off}
 use Rattle.cim_model.specs.Model.{about, is_about, is_subject}
-use Rattle.cim_model.specs.Runs.{run_of}
 use Rattle.cim_profile.specs.Walk.{lesser_of, IsFirst, IsLeast, IsLesserBy}
 use Rattle.cim_profile.specs.declared.faults.Break.{Break}
 use Rattle.cim_model.proofs.Runs.{front, past, take_front, drop_past, front_past, either, or_left, or_right, not_true, IsNoneBelow, Rises, ordered_rises, rises_past, later, run_subject, run_has, about_run, number_itself}
@@ -89,11 +90,11 @@ pub record IsWalk (breaks : ℕ → ℕ → Bool) (m done rest : List Statement)
   pub rises : Rises rest
   pub lowest : IsLeast breaks (is_subject done) least
 
-pub walk_begins : (breaks : ℕ → ℕ → Bool) (m statements list : List Statement) → m ≡ statements → statements ≡ list → IsOrdered list → IsWalk breaks m [] statements None
-walk_begins breaks m statements list same is ordered = record {
-  whole = sym same;
+pub walk_begins : (breaks : ℕ → ℕ → Bool) (m left : List Statement) → left ≡ m → IsOrdered m → IsWalk breaks m [] left None
+walk_begins breaks m left same ordered = record {
+  whole = same;
   apart = λ y z h g. absurd cc;
-  rises = ordered_rises statements (subst IsOrdered (sym is) ordered);
+  rises = ordered_rises left (subst IsOrdered (sym same) ordered);
   lowest = λ rule x h g. absurd cc;
 }
 
@@ -132,28 +133,43 @@ step_at breaks m done s more least now walk (rule, first, is) = record {
   lowest = subst (IsLeast breaks (is_subject (done ++ front (is_about s.subject.number) (s ∷ more)))) (sym is) (least_next breaks _ _ s.subject rule least (next_of breaks m done s more least walk) first walk.lowest);
 }
 
--- the statements at the front are all that is said of the first one's subject
-pub walk_run : (breaks : ℕ → ℕ → Bool) (m done rest : List Statement) (first : Statement) (n : ℕ) (least : Option Break) → IsWalk breaks m done rest least → 1 ≤ length rest
-    → first ≡ get_or rest 0 first → n ≡ run_of rest → take n rest ≡ about m first.subject.number
-walk_run breaks m done [] first n least walk some is run = absurd (omega arith)
-walk_run breaks m done (s ∷ more) first n least walk some is run =
-    ap (λ (k : ℕ). take k (s ∷ more)) run ∙ take_front (is_about s.subject.number) (s ∷ more) ∙ run_at breaks m done s more least walk ∙ ap (λ (t : Statement). about m t.subject.number) (sym is)
+-- the statements that come off are all that is said of their subject
+run_off : (breaks : ℕ → ℕ → Bool) (m done left after them : List Statement) (id : Id) (least : Option Break) → IsWalk breaks m done left least → TakesSubject left (Some (id, them)) after
+    → them ≡ about m id.number
+run_off breaks m done [] after them id least walk taken = absurd (let e : Some (id, them) ≡ None = taken.0 in cc)
+run_off breaks m done (s ∷ more) after them id least walk taken =
+    let off = taken_off s more id them after taken in
+    off.front ∙ take_front (is_about s.subject.number) (s ∷ more) ∙ run_at breaks m done s more least walk ∙ ap (λ (x : Id). about m x.number) (sym off.subject)
 
-pub walk_steps : (breaks : ℕ → ℕ → Bool) (m done rest after : List Statement) (first : Statement) (n : ℕ) (least now : Option Break) → IsWalk breaks m done rest least → 1 ≤ length rest
-    → first ≡ get_or rest 0 first → n ≡ run_of rest → after ≡ drop n rest → IsLesserBy (IsFirst breaks first.subject.number) least first.subject now
-    → (more : List Statement) × IsWalk breaks m more after now
-walk_steps breaks m done [] after first n least now walk some is run back lesser = absurd (omega arith)
-walk_steps breaks m done (s ∷ more) after first n least now walk some is run back lesser = (
-  done ++ front (is_about s.subject.number) (s ∷ more),
-  subst (λ (rest : List Statement). IsWalk breaks m (done ++ front (is_about s.subject.number) (s ∷ more)) rest now)
-      (sym (back ∙ ap (λ (k : ℕ). drop k (s ∷ more)) run ∙ drop_past (is_about s.subject.number) (s ∷ more)))
-      (step_at breaks m done s more least now walk (subst (λ (t : Statement). IsLesserBy (IsFirst breaks t.subject.number) least t.subject now) is lesser)),
-)
+pub walk_run : (breaks : ℕ → ℕ → Bool) (m done left after them : List Statement) (id : Id) (o : Option (Id × List Statement)) (least : Option Break) → IsWalk breaks m done left least
+    → o ≡ Some (id, them) → TakesSubject left o after → them ≡ about m id.number
+walk_run breaks m done left after them id o least walk is taken =
+    run_off breaks m done left after them id least walk (subst (λ (p : Option (Id × List Statement)). TakesSubject left p after) is taken)
+
+step_off : (breaks : ℕ → ℕ → Bool) (m done left after them : List Statement) (id : Id) (least now : Option Break) → IsWalk breaks m done left least → TakesSubject left (Some (id, them)) after
+    → IsLesserBy (IsFirst breaks id.number) least id now → (more : List Statement) × IsWalk breaks m more after now
+step_off breaks m done [] after them id least now walk taken lesser = absurd (let e : Some (id, them) ≡ None = taken.0 in cc)
+step_off breaks m done (s ∷ more) after them id least now walk taken lesser =
+    let off = taken_off s more id them after taken in (
+      done ++ front (is_about s.subject.number) (s ∷ more),
+      subst (λ (rest : List Statement). IsWalk breaks m (done ++ front (is_about s.subject.number) (s ∷ more)) rest now)
+          (sym (off.back ∙ drop_past (is_about s.subject.number) (s ∷ more)))
+          (step_at breaks m done s more least now walk (subst (λ (x : Id). IsLesserBy (IsFirst breaks x.number) least x now) off.subject lesser)),
+    )
+
+pub walk_steps : (breaks : ℕ → ℕ → Bool) (m done left after them : List Statement) (id : Id) (o : Option (Id × List Statement)) (least now : Option Break) → IsWalk breaks m done left least
+    → o ≡ Some (id, them) → TakesSubject left o after → IsLesserBy (IsFirst breaks id.number) least id now → (more : List Statement) × IsWalk breaks m more after now
+walk_steps breaks m done left after them id o least now walk is taken lesser =
+    step_off breaks m done left after them id least now walk (subst (λ (p : Option (Id × List Statement)). TakesSubject left p after) is taken) lesser
 
 append_nil : (list : List Statement) → list ++ [] ≡ list
 append_nil list = search rules
 
-pub walk_ends : (breaks : List Statement → ℕ → ℕ → Bool) (m list done rest : List Statement) (least : Option Break) → m ≡ list → IsWalk (breaks m) m done rest least → length rest < 1 → IsLeast (breaks list) (is_subject list) least
-walk_ends breaks m list done [] least same walk none =
-    subst (λ (all : List Statement). IsLeast (breaks all) (is_subject all) least) same (subst (λ (all : List Statement). IsLeast (breaks m) (is_subject all) least) (sym (append_nil done) ∙ walk.whole) walk.lowest)
-walk_ends breaks m list done (s ∷ more) least same walk none = absurd (omega arith)
+all_walked : (breaks : ℕ → ℕ → Bool) (m done left after : List Statement) (least : Option Break) → IsWalk breaks m done left least → TakesSubject left None after → IsLeast breaks (is_subject m) least
+all_walked breaks m done [] after least walk taken = subst (λ (all : List Statement). IsLeast breaks (is_subject all) least) (sym (append_nil done) ∙ walk.whole) walk.lowest
+all_walked breaks m done (s ∷ more) after least walk taken = absurd (let e : None ≡ first_subject (s ∷ more) = taken.0 in cc)
+
+pub walk_ends : (breaks : ℕ → ℕ → Bool) (m done left after : List Statement) (o : Option (Id × List Statement)) (least : Option Break) → IsWalk breaks m done left least
+    → o ≡ None → TakesSubject left o after → IsLeast breaks (is_subject m) least
+walk_ends breaks m done left after o least walk is taken =
+    all_walked breaks m done left after least walk (subst (λ (p : Option (Id × List Statement)). TakesSubject left p after) is taken)

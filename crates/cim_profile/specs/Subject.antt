@@ -9,5 +9,5 @@ use Rattle.cim_profile.specs.declared.table.Row.{Row}
 
 -- the subject's statements are those of the model about it, and its types name the classes that they name
 pub record IsSubjectOf (m : List Statement) (subject : Subject) : Type 0 where
-  pub statements : subject.statements.now ≡ about m subject.id.number
+  pub statements : subject.statements ≡ about m subject.id.number
   pub types : NameTypes m subject.id.number (map (λ (row : Row (Option Class)). row.value) subject.types.now)

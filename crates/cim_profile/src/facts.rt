@@ -2,6 +2,7 @@
 
 ghost use Rattle.std.specs.Prelude.{◌≡◌, Option, map, IfOk};
 ghost use Rattle.std.specs.List.{filter, list_any};
+ghost use Rattle.statement_set.specs.Set.{IsOrdered};
 ghost use Rattle.cim_words.specs.declared.class.Class.{Class};
 ghost use Rattle.cim_words.specs.declared.known_prop.KnownProp.{KnownProp};
 ghost use Rattle.cim_words.specs.declared.known_prop.KnownProp.TheVariants.{K2, K3, K5, K8};
@@ -18,13 +19,14 @@ use crate::kind::Kind;
 use crate::mark_kind::MarkKind;
 use crate::stated::{naming, types, values};
 use crate::table::{Row, Table};
-use cim_words::{Class, Id, KnownProp, Length, NoMemory, Statement};
+use cim_words::{Class, Id, KnownProp, Length, NoMemory};
+use statement_set::{StatementSet, Subjects};
 use std::alloc::Global;
 
 /// Tables over the statements of a model.
 #[derive(Drop)]
 pub(crate) struct Facts<'a> {
-    statements: &'a [Statement],
+    statements: &'a StatementSet,
     types: Table<Option<Class>>,
     terminals: Table<Id>,
     terminals_at: Table<Id>,
@@ -46,8 +48,8 @@ pub(crate) struct Facts<'a> {
 }
 
 impl<'a> Facts<'a> {
-    /// The tables over these statements.
-    pub(crate) fn of(alloc: Global, statements: &'a [Statement]) -> Result<Facts<'a>, NoMemory>
+    /// The tables over the statements of a set.
+    pub(crate) fn of(alloc: Global, statements: &'a StatementSet) -> Result<Facts<'a>, NoMemory>
         ensures { IfOk result (λ facts. facts.statements.now ≡ statements.now) }
     {
         Ok(Facts {
@@ -62,6 +64,14 @@ impl<'a> Facts<'a> {
             cut_lengths: values(alloc, statements, MarkKind::Cut.length())?,
             clamp_lengths: values(alloc, statements, MarkKind::Clamp.length())?,
         })
+    }
+
+    /// Goes over the subjects, in order, each with the statements about it.
+    pub(crate) fn subjects(&self) -> Subjects<'a>
+        ensures list { result ≡ self.now.statements.now }
+        ensures ordered { IsOrdered self.now.statements.now }
+    {
+        self.statements.subjects()
     }
 
     /// Rows with the classes that a subject's type statements name.

@@ -1,7 +1,6 @@
 //! The least fault of a model.
 
 ghost use Rattle.std.specs.Prelude.{◌≡◌, IfOk};
-ghost use Rattle.statement_set.specs.Set.{IsOrdered};
 ghost use Rattle.cim_model.specs.Model.{about, is_subject};
 ghost use Rattle.cim_profile.specs.FirstBreak.{IsFirstBreak};
 ghost use Rattle.cim_profile.specs.Places.{HoldsPlaces};
@@ -17,9 +16,8 @@ use crate::rules::{
     breaks_form, breaks_once, breaks_owner, breaks_sides, breaks_target, breaks_type,
 };
 use crate::subject::Subject;
-use cim_model::run_len;
-use cim_words::{Id, NoMemory, Statement};
-use statement_set::StatementSet;
+use cim_words::{Id, NoMemory};
+use statement_set::{About, StatementSet};
 use std::alloc::Global;
 
 /// A fault of a model: a rule of the profile and a subject that breaks it.
@@ -46,15 +44,14 @@ enum Stage {
 pub fn first_break(alloc: Global, set: &StatementSet) -> Result<Option<Break>, NoMemory>
     ensures { IfOk result (IsFirstBreak set.now) }
 {
-    let statements = set.statements();
-    let facts = Facts::of(alloc, statements)?;
+    let facts = Facts::of(alloc, set)?;
     let unknown = Places::unknown(alloc);
-    if let Some(found) = least_of(alloc, &facts, &unknown, Stage::Repeats, statements)? {
+    if let Some(found) = least_of(alloc, &facts, &unknown, Stage::Repeats)? {
         return Ok(Some(found));
     }
     // Each cut and clamp now has one segment and one length.
     let places = Places::of(alloc, &facts)?;
-    least_of(alloc, &facts, &places, Stage::Rest, statements)
+    least_of(alloc, &facts, &places, Stage::Rest)
 }
 
 /// The least fault by the rules of a stage, none where no subject breaks one of them.
@@ -63,19 +60,13 @@ fn least_of(
     facts: &Facts<'_>,
     places: &Places,
     stage: Stage,
-    statements: &[Statement],
 ) -> Result<Option<Break>, NoMemory>
-    requires same { facts.now.statements.now ≡ statements.now }
-    requires ordered { IsOrdered statements.now }
-    requires places { stage ≡ Rest → HoldsPlaces facts.now.statements.now places.now }
-    ensures { IfOk result (IsLeast (breaks_in stage statements.now) (is_subject statements.now)) }
+    requires { stage ≡ Rest → HoldsPlaces facts.now.statements.now places.now }
+    ensures { IfOk result (IsLeast (breaks_in stage facts.now.statements.now) (is_subject facts.now.statements.now)) }
 {
     let mut least = None;
-    let mut rest = statements;
-    while let [first, ..] = rest {
-        let (about, after) = rest.split_at(run_len(rest));
-        least = least_with(alloc, facts, places, stage, least, first.subject, about)?;
-        rest = after;
+    for (id, about) in facts.subjects() {
+        least = least_with(alloc, facts, places, stage, least, id, about)?;
     }
     Ok(least)
 }
@@ -88,9 +79,9 @@ fn least_with(
     stage: Stage,
     least: Option<Break>,
     id: Id,
-    statements: &[Statement],
+    statements: About<'_>,
 ) -> Result<Option<Break>, NoMemory>
-    requires statements { statements.now ≡ about facts.now.statements.now id.number }
+    requires statements { statements ≡ about facts.now.statements.now id.number }
     requires places { stage ≡ Rest → HoldsPlaces facts.now.statements.now places.now }
     ensures { IfOk result (IsLesserBy (IsFirstIn stage facts.now.statements.now id.number) least id) }
 {

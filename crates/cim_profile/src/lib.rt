@@ -15,8 +15,6 @@ mod said;
 mod stated;
 mod subject;
 mod table;
-#[cfg(test)]
-mod tests;
 
 pub use cim_words::NoMemory;
 pub use faults::{Break, first_break};

@@ -52,7 +52,7 @@ fn is_misplaced(
         return Ok(false);
     }
     let lengths = facts.mark_lengths(alloc, kind, subject.id)?;
-    for statement in subject.statements {
+    for statement in subject.statements.again() {
         if is_wrong(alloc, facts, places, kind, subject.id, statement, &lengths)? {
             return Ok(true);
         }

@@ -15,7 +15,8 @@ use crate::kind::Kind;
 use crate::said::{count, has_one_name, is_silent};
 use crate::subject::Subject;
 use cim_model::is_by;
-use cim_words::{KnownProp, NoMemory, Object, Statement};
+use cim_words::{KnownProp, NoMemory, Object};
+use statement_set::About;
 use std::alloc::Global;
 
 /// What has a class of the table, or is named by a terminal as its equipment, has one type statement, and that names a class.
@@ -27,7 +28,7 @@ pub(crate) fn breaks_type(
     requires { IsSubjectOf facts.now.statements.now subject.now }
     ensures { IfOk result (λ broken. broken ≡ spec.breaks_type facts.now.statements.now subject.now.id.number) }
 {
-    if has_one_name(subject.statements) {
+    if has_one_name(&subject.statements) {
         return Ok(false);
     }
     Ok(subject.is_of(Kind::Known) || !facts.terminals_of(alloc, subject.id)?.is_empty())
@@ -43,16 +44,16 @@ pub(crate) fn breaks_once(subject: &Subject<'_>) -> bool
 fn states_twice(subject: &Subject<'_>, known: KnownProp) -> bool
     ensures { (m : List Statement) → IsSubjectOf m subject.now → result ≡ spec.states_twice m subject.now.id.number known }
 {
-    count(subject.statements, known) > 1 && subject.is_of(Kind::Carrying(known))
+    count(&subject.statements, known) > 1 && subject.is_of(Kind::Carrying(known))
 }
 
 /// A terminal names its equipment, a clamp and a cut their segment.
 pub(crate) fn breaks_owner(subject: &Subject<'_>) -> bool
     ensures { (m : List Statement) → IsSubjectOf m subject.now → result ≡ spec.breaks_owner m subject.now.id.number }
 {
-    subject.is_of(Kind::Terminal) && is_silent(subject.statements, KnownProp::K2)
-        || subject.is_of(Kind::Clamp) && is_silent(subject.statements, KnownProp::K9)
-        || subject.is_of(Kind::Cut) && is_silent(subject.statements, KnownProp::K11)
+    subject.is_of(Kind::Terminal) && is_silent(&subject.statements, KnownProp::K2)
+        || subject.is_of(Kind::Clamp) && is_silent(&subject.statements, KnownProp::K9)
+        || subject.is_of(Kind::Cut) && is_silent(&subject.statements, KnownProp::K11)
 }
 
 /// What a reference names is of the right class.
@@ -69,13 +70,13 @@ fn names_wrongly(facts: &Facts<'_>, subject: &Subject<'_>, known: KnownProp) -> 
     requires { IsSubjectOf facts.now.statements.now subject.now }
     ensures { result ≡ spec.names_wrongly facts.now.statements.now subject.now.id.number known }
 {
-    says_no_target(facts, subject.statements, known) && subject.is_of(Kind::Carrying(known))
+    says_no_target(facts, &subject.statements, known) && subject.is_of(Kind::Carrying(known))
 }
 
-fn says_no_target(facts: &Facts<'_>, statements: &[Statement], known: KnownProp) -> bool
+fn says_no_target(facts: &Facts<'_>, statements: &About<'_>, known: KnownProp) -> bool
     ensures { result ≡ list_any (λ o. not (spec.names_target facts.now.statements.now known o)) (said_in statements.now known) }
 {
-    statements.iter().any(|statement| is_by(known, statement)
+    statements.again().any(|statement| is_by(known, statement)
         && !names_target(facts, known, &statement.object))
 }
 
@@ -102,13 +103,13 @@ pub(crate) fn breaks_form(subject: &Subject<'_>) -> bool
 fn states_wrongly(subject: &Subject<'_>, known: KnownProp) -> bool
     ensures { (m : List Statement) → IsSubjectOf m subject.now → result ≡ spec.states_wrongly m subject.now.id.number known }
 {
-    says_wrongly(subject.statements, known) && subject.is_of(Kind::Carrying(known))
+    says_wrongly(&subject.statements, known) && subject.is_of(Kind::Carrying(known))
 }
 
-fn says_wrongly(statements: &[Statement], known: KnownProp) -> bool
+fn says_wrongly(statements: &About<'_>, known: KnownProp) -> bool
     ensures { result ≡ list_any (λ o. not (spec.has_form known o)) (said_in statements.now known) }
 {
-    statements.iter().any(|statement| is_by(known, statement)
+    statements.again().any(|statement| is_by(known, statement)
         && !has_form(known, &statement.object))
 }
 
@@ -117,14 +118,14 @@ pub(crate) fn breaks_sides(subject: &Subject<'_>) -> bool
     ensures { (m : List Statement) → IsSubjectOf m subject.now → result ≡ spec.breaks_sides m subject.now.id.number }
 {
     subject.is_of(Kind::SwitchPhase)
-        && subject.statements.iter().any(|statement| is_by(KnownProp::K19, statement)
+        && subject.statements.again().any(|statement| is_by(KnownProp::K19, statement)
             && has_other_side(subject, &statement.object))
 }
 
 fn has_other_side(subject: &Subject<'_>, side: &Object) -> bool
     ensures { (m : List Statement) → IsSubjectOf m subject.now → result ≡ spec.has_other_side m subject.now.id.number side.now }
 {
-    subject.statements.iter().any(|statement| is_by(KnownProp::K20, statement)
+    subject.statements.again().any(|statement| is_by(KnownProp::K20, statement)
         && !is_same(side, &statement.object))
 }
 

@@ -6,30 +6,31 @@ ghost use Rattle.cim_model.specs.Profile.{is_one_name};
 ghost use Rattle.cim_words.specs.declared.known_prop.KnownProp.TheVariants.{K1};
 
 use cim_model::is_by;
-use cim_words::{KnownProp, Object, Statement};
+use cim_words::{KnownProp, Object};
+use statement_set::About;
 
 /// How many statements speak of a property.
-pub(crate) fn count(statements: &[Statement], known: KnownProp) -> usize
+pub(crate) fn count(statements: &About<'_>, known: KnownProp) -> usize
     ensures { result ≡ length (spec.said_in statements.now known) }
 {
     statements
-        .iter()
+        .again()
         .filter(|statement| is_by(known, statement))
         .count()
 }
 
 /// Whether a property is not spoken of.
-pub(crate) fn is_silent(statements: &[Statement], known: KnownProp) -> bool
+pub(crate) fn is_silent(statements: &About<'_>, known: KnownProp) -> bool
     ensures { result ≡ spec.is_empty (spec.said_in statements.now known) }
 {
     count(statements, known) == 0
 }
 
 /// Whether there is one type statement, and it names a class.
-pub(crate) fn has_one_name(statements: &[Statement]) -> bool
+pub(crate) fn has_one_name(statements: &About<'_>) -> bool
     ensures { result ≡ is_one_name (spec.said_in statements.now K1) }
 {
     count(statements, KnownProp::K1) == 1
-        && statements.iter().any(|statement| is_by(KnownProp::K1, statement)
+        && statements.again().any(|statement| is_by(KnownProp::K1, statement)
             && matches!(statement.object, Object::Name(_)))
 }

@@ -12,6 +12,7 @@ ghost use Rattle.cim_profile.specs.declared.table.Row.{Row};
 use crate::table::{Row, Table};
 use cim_model::{class_of, is_by, length_of, named_by, number_of};
 use cim_words::{Class, Id, KnownProp, Length, NoMemory, Object, Statement};
+use statement_set::StatementSet;
 use std::alloc::Global;
 
 /// What is read of the objects that statements say.
@@ -50,7 +51,7 @@ impl Reading for Length {
 /// The values that a property states, by subject.
 pub(crate) fn values<V: Reading>(
     alloc: Global,
-    statements: &[Statement],
+    statements: &StatementSet,
     known: KnownProp,
 ) -> Result<Table<Option<V>>, NoMemory>
     ensures { IfOk result (spec.Holds V.read known statements.now) }
@@ -61,7 +62,7 @@ pub(crate) fn values<V: Reading>(
 /// The classes that type statements name, by subject. A class that was just named is not kept again, so ordered statements leave few rows a subject.
 pub(crate) fn types(
     alloc: Global,
-    statements: &[Statement],
+    statements: &StatementSet,
 ) -> Result<Table<Option<Class>>, NoMemory>
     ensures { IfOk result (spec.HoldsTypes statements.now) }
 {
@@ -79,7 +80,7 @@ fn equal_rows_are_one()
 /// A row for each statement by a property, in their order.
 fn rows<V: Reading>(
     alloc: Global,
-    statements: &[Statement],
+    statements: &StatementSet,
     known: KnownProp,
 ) -> Result<Vec<Row<Option<V>>>, NoMemory>
     ensures { IfOk result (λ rows. rows.items ≡ map (spec.row_read V.read) (filter (model.is_by known) statements.now)) }
@@ -97,7 +98,7 @@ fn rows<V: Reading>(
 /// The subjects that name another by a property, by what they name.
 pub(crate) fn naming(
     alloc: Global,
-    statements: &[Statement],
+    statements: &StatementSet,
     known: KnownProp,
 ) -> Result<Table<Id>, NoMemory>
     ensures { IfOk result (spec.HoldsNaming known statements.now) }

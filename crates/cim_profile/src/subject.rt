@@ -9,13 +9,14 @@ ghost use Rattle.cim_profile.specs.Subject.{IsSubjectOf};
 use crate::facts::names_any;
 use crate::kind::Kind;
 use crate::table::Row;
-use cim_words::{Class, Id, Statement};
+use cim_words::{Class, Id};
+use statement_set::About;
 
 /// A subject, the statements about it, and the classes that its type statements name.
-#[derive(Clone, Copy, Drop)]
+#[derive(Drop)]
 pub(crate) struct Subject<'a> {
     pub(crate) id: Id,
-    pub(crate) statements: &'a [Statement],
+    pub(crate) statements: About<'a>,
     pub(crate) types: &'a [Row<Option<Class>>],
 }
 

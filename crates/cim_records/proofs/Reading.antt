@@ -1,13 +1,14 @@
 -- Reading the subjects of an ordered list, run by run.
-use Rattle.std.proofs.Common.{◌≡◌, ℕ, ◌<◌, ◌≤◌, ◌==◌, List, [], ◌∷◌, ◌++◌, map, length, take, drop, get_or, Bool, true, false, ◌||◌, cond, Some, None, refl, ap, sym, subst, ◌∙◌, rules, arith, append_assoc, true≢false, ⊎_elim}
+use Rattle.std.proofs.Common.{◌≡◌, ℕ, ◌<◌, ◌==◌, List, [], ◌∷◌, ◌++◌, map, Bool, true, false, ◌||◌, cond, Option, Some, None, refl, ap, sym, subst, ◌∙◌, rules, arith, append_assoc, true≢false, ⊎_elim}
 use Rattle.std.specs.Prelude.{if◌then◌else◌}
 use Rattle.std.proofs.lemmas.List.{map-append}
 use Rattle.std.proofs.lemmas.List.Folds.{list_any-append}
 use Rattle.cim_words.specs.declared.identifier.Id.{Id}
 use Rattle.cim_words.specs.declared.statement.Statement.{Statement}
+use Rattle.statement_set.specs.Runs.{first_subject, TakesSubject}
 use Rattle.statement_set.specs.Set.{IsOrdered}
+use Rattle.statement_set.proofs.Runs.{IsTaken, taken_off}
 use Rattle.cim_model.specs.Model.{about, is_about, is_subject, subjects}
-use Rattle.cim_model.specs.Runs.{run_of}
 use Rattle.cim_model.proofs.Runs.{front, past, take_front, drop_past, front_past, either, or_left, or_right, not_true, IsNoneBelow, Rises, ordered_rises, rises_past, later, run_subject, run_has, about_run, number_itself, same_number}
 use Rattle.cim_records.specs.Found.{found}
 use Rattle.cim_records.specs.Subject.{record_in, records, subject_in}
@@ -79,8 +80,8 @@ pub record IsReading (m done rest : List Statement) (entries : List (Id × Subje
   pub rises : Rises rest
   pub so_far : entries ≡ map (record_in m) (subjects done)
 
-pub reading_begins : (m : List Statement) (entries : List (Id × Subject)) → IsOrdered m → entries ≡ [] → IsReading m [] m entries
-reading_begins m entries ordered none = record { whole = refl; apart = λ y z h g. absurd cc; rises = ordered_rises m ordered; so_far = none }
+pub reading_begins : (m left : List Statement) (entries : List (Id × Subject)) → left ≡ m → IsOrdered m → entries ≡ [] → IsReading m [] left entries
+reading_begins m left entries same ordered none = record { whole = same; apart = λ y z h g. absurd cc; rises = ordered_rises left (subst IsOrdered (sym same) ordered); so_far = none }
 
 -- no entry has the next subject
 fresh : (m done rest : List Statement) (s : Statement) (entries : List (Id × Subject)) → IsReading m done (s ∷ rest) entries → is_subject done s.subject.number ≡ false
@@ -92,11 +93,15 @@ new_at m done x entries is none =
     ∙ found_map (λ (k : ℕ). subject_in (about m k)) (subjects done) x
     ∙ ap (λ (b : Bool). if b then Some (subject_in (about m x)) else None) (among_subjects x done ∙ none)
 
-pub entry_is_new : (m done rest : List Statement) (first : Statement) (entries : List (Id × Subject)) → IsReading m done rest entries → 1 ≤ length rest → first ≡ get_or rest 0 first
-    → found entries first.subject.number ≡ None
-entry_is_new m done [] first entries reading some is = absurd (omega arith)
-entry_is_new m done (s ∷ more) first entries reading some is =
-    ap (λ (t : Statement). found entries t.subject.number) is ∙ new_at m done s.subject.number entries reading.so_far (fresh m done more s entries reading)
+new_off : (m done left after them : List Statement) (id : Id) (entries : List (Id × Subject)) → IsReading m done left entries → TakesSubject left (Some (id, them)) after → found entries id.number ≡ None
+new_off m done [] after them id entries reading taken = absurd (let e : Some (id, them) ≡ None = taken.0 in cc)
+new_off m done (s ∷ more) after them id entries reading taken =
+    ap (λ (x : Id). found entries x.number) (taken_off s more id them after taken).subject ∙ new_at m done s.subject.number entries reading.so_far (fresh m done more s entries reading)
+
+pub entry_is_new : (m done left after them : List Statement) (id : Id) (o : Option (Id × List Statement)) (entries : List (Id × Subject)) → IsReading m done left entries
+    → o ≡ Some (id, them) → TakesSubject left o after → found entries id.number ≡ None
+entry_is_new m done left after them id o entries reading is taken =
+    new_off m done left after them id entries reading (subst (λ (p : Option (Id × List Statement)). TakesSubject left p after) is taken)
 
 first_least : (s : Statement) (more : List Statement) → Rises (s ∷ more) → IsNoneBelow s.subject.number (s ∷ more)
 first_least s more rises z h = ⊎_elim (λ here. let same : s.subject.number ≡ z = same_number _ _ here in omega arith) (λ there. rises.0 z there) (either _ _ h)
@@ -105,13 +110,6 @@ run_at : (m done : List Statement) (s : Statement) (more : List Statement) (entr
 run_at m done s more entries reading =
     about_run m done (s ∷ more) s.subject.number reading.whole (fresh m done more s entries reading)
     (not_true (is_subject (past (is_about s.subject.number) (s ∷ more)) s.subject.number) (λ h. absurd (let self : s.subject.number < s.subject.number = later _ _ (s ∷ more) reading.rises (first_least s more reading.rises) h in omega arith)))
-
--- the statements at the front are all that is said of the first one's subject
-pub run_is_all : (m done rest : List Statement) (first : Statement) (n : ℕ) (entries : List (Id × Subject)) → IsReading m done rest entries → 1 ≤ length rest
-    → first ≡ get_or rest 0 first → n ≡ run_of rest → take n rest ≡ about m first.subject.number
-run_is_all m done [] first n entries reading some is run = absurd (omega arith)
-run_is_all m done (s ∷ more) first n entries reading some is run =
-    ap (λ (k : ℕ). take k (s ∷ more)) run ∙ take_front (is_about s.subject.number) (s ∷ more) ∙ run_at m done s more entries reading ∙ ap (λ (t : Statement). about m t.subject.number) (sym is)
 
 step_at : (m done : List Statement) (s : Statement) (more : List Statement) (entries : List (Id × Subject)) → IsReading m done (s ∷ more) entries
     → IsReading m (done ++ front (is_about s.subject.number) (s ∷ more)) (past (is_about s.subject.number) (s ∷ more)) (entries ++ record_in m s.subject.number ∷ [])
@@ -131,26 +129,36 @@ step_at m done s more entries reading = record {
     in_rest p list z h = ap (λ (all : List Statement). is_subject all z) (sym (front_past p list)) ∙ list_any-append (is_about z) (front p list) (past p list) ∙ or_right _ _ h
 
 -- the next run, of which an entry is made
-pub reading_steps : (m done rest after : List Statement) (first : Statement) (n : ℕ) (entries now : List (Id × Subject)) (read : Subject) → IsReading m done rest entries → 1 ≤ length rest
-    → first ≡ get_or rest 0 first → n ≡ run_of rest → after ≡ drop n rest → read ≡ subject_in (take n rest) → now ≡ entries ++ (first.subject, read) ∷ []
-    → (more : List Statement) × IsReading m more after now
-reading_steps m done [] after first n entries now read reading some is run back said added = absurd (omega arith)
-reading_steps m done (s ∷ more) after first n entries now read reading some is run back said added = (
+step_off : (m done left after them : List Statement) (id : Id) (entries now : List (Id × Subject)) (read : Subject) → IsReading m done left entries → TakesSubject left (Some (id, them)) after
+    → read ≡ subject_in them → now ≡ entries ++ (id, read) ∷ [] → (more : List Statement) × IsReading m more after now
+step_off m done [] after them id entries now read reading taken said added = absurd (let e : Some (id, them) ≡ None = taken.0 in cc)
+step_off m done (s ∷ more) after them id entries now read reading taken said added = (
   done ++ front (is_about s.subject.number) (s ∷ more),
   subst (λ (rest : List Statement). IsReading m (done ++ front (is_about s.subject.number) (s ∷ more)) rest now)
-      (sym (back ∙ ap (λ (k : ℕ). drop k (s ∷ more)) run ∙ drop_past (is_about s.subject.number) (s ∷ more)))
+      (sym (off.back ∙ drop_past (is_about s.subject.number) (s ∷ more)))
       (subst (IsReading m (done ++ front (is_about s.subject.number) (s ∷ more)) (past (is_about s.subject.number) (s ∷ more))) (sym entry) (step_at m done s more entries reading)),
 )
   where
+    off : IsTaken s more id them after
+    off = taken_off s more id them after taken
+
     entry : now ≡ entries ++ record_in m s.subject.number ∷ []
     entry =
         added
-        ∙ ap (λ (r : Subject). entries ++ (first.subject, r) ∷ []) (said ∙ ap subject_in (run_is_all m done (s ∷ more) first n entries reading some is run))
-        ∙ ap (λ (t : Statement). entries ++ record_in m t.subject.number ∷ []) is
+        ∙ ap (λ (r : Subject). entries ++ (id, r) ∷ []) (said ∙ ap subject_in (off.front ∙ take_front (is_about s.subject.number) (s ∷ more) ∙ run_at m done s more entries reading))
+        ∙ ap (λ (x : Id). entries ++ (x, subject_in (about m s.subject.number)) ∷ []) off.subject
+
+pub reading_steps : (m done left after them : List Statement) (id : Id) (o : Option (Id × List Statement)) (entries now : List (Id × Subject)) (read : Subject) → IsReading m done left entries
+    → o ≡ Some (id, them) → TakesSubject left o after → read ≡ subject_in them → now ≡ entries ++ (id, read) ∷ [] → (more : List Statement) × IsReading m more after now
+reading_steps m done left after them id o entries now read reading is taken said added =
+    step_off m done left after them id entries now read reading (subst (λ (p : Option (Id × List Statement)). TakesSubject left p after) is taken) said added
 
 append_nil : (list : List Statement) → list ++ [] ≡ list
 append_nil list = search rules
 
-pub reading_ends : (m done rest : List Statement) (entries : List (Id × Subject)) → IsReading m done rest entries → length rest < 1 → entries ≡ records m
-reading_ends m done [] entries reading none = reading.so_far ∙ ap (λ (list : List Statement). map (record_in m) (subjects list)) (sym (append_nil done) ∙ reading.whole)
-reading_ends m done (s ∷ more) entries reading none = absurd (omega arith)
+all_read : (m done left after : List Statement) (entries : List (Id × Subject)) → IsReading m done left entries → TakesSubject left None after → entries ≡ records m
+all_read m done [] after entries reading taken = reading.so_far ∙ ap (λ (list : List Statement). map (record_in m) (subjects list)) (sym (append_nil done) ∙ reading.whole)
+all_read m done (s ∷ more) after entries reading taken = absurd (let e : None ≡ first_subject (s ∷ more) = taken.0 in cc)
+
+pub reading_ends : (m done left after : List Statement) (o : Option (Id × List Statement)) (entries : List (Id × Subject)) → IsReading m done left entries → o ≡ None → TakesSubject left o after → entries ≡ records m
+reading_ends m done left after o entries reading is taken = all_read m done left after entries reading (subst (λ (p : Option (Id × List Statement)). TakesSubject left p after) is taken)

@@ -69,10 +69,24 @@ module _ (subjects : List (Id × Subject)) (k : KnownProp) (x : ℕ) where
   append_nothing : (sets : List PhaseSet) → sets ++ [] ≡ sets
   append_nothing sets = search rules
 
-  pub joined_past : (m : List Statement) (i : ℕ) (s : Statement) (first old : Option PhaseSet) → i < length m → s ≡ get_or m i s → phase s.subject.number ≡ None
+  -- one statement more, of which nothing is stated
+  pub silent_past : (m : List Statement) (i : ℕ) (s : Statement) (first old : Option PhaseSet) → i < length m → s ≡ get_or m i s → stated_by subjects (s ∷ []) k x ≡ []
       → old ≡ join_all first (stated_by subjects (take i m) k x) → old ≡ join_all first (stated_by subjects (take (i + 1) m) k x)
-  joined_past m i s first old within is none so_far =
-      so_far ∙ ap (join_all first) (sym (stated_next m i s within is ∙ ap (λ (sets : List PhaseSet). stated_by subjects (take i m) k x ++ sets) (silent_one s (is_naming k x s) (counted s.subject.number) refl refl none) ∙ append_nothing _))
+  silent_past m i s first old within is silent so_far =
+      so_far ∙ ap (join_all first) (sym (stated_next m i s within is ∙ ap (λ (sets : List PhaseSet). stated_by subjects (take i m) k x ++ sets) silent ∙ append_nothing _))
+
+  pub unnamed_one : (s : Statement) → is_naming k x s ≡ false → stated_by subjects (s ∷ []) k x ≡ []
+  unnamed_one s names = rw names refl
+
+  uncounted : (s : Statement) (b : Bool) → is_naming k x s ≡ b → counted s.subject.number ≡ false → stated_by subjects (s ∷ []) k x ≡ []
+  uncounted s false names is = rw names refl
+  uncounted s true names is = rw (names, is) refl
+
+  pub uncounted_one : (s : Statement) → counted s.subject.number ≡ false → stated_by subjects (s ∷ []) k x ≡ []
+  uncounted_one s = uncounted s (is_naming k x s) refl
+
+  pub phaseless_one : (s : Statement) → phase s.subject.number ≡ None → stated_by subjects (s ∷ []) k x ≡ []
+  phaseless_one s none = silent_one s (is_naming k x s) (counted s.subject.number) refl refl none
 
   join_one_more : (old : Option PhaseSet) (v : PhaseSet) (b : Bool) → (if b then Some (join_one old v) else old) ≡ join_all old (if b then v ∷ [] else [])
   join_one_more old v true = refl

@@ -31,3 +31,10 @@ HoldsPhases m sets = (x : ℕ) → found sets x ≡ union_of (part_phases m x)
 -- under each segment are its cuts and clamps
 abbrev pub HoldsMarks : List Statement → List (Id × List Mark) → Type 0
 HoldsMarks m groups = (x : ℕ) → members groups x ≡ marks_of m x
+
+-- all four tables of what statements name
+pub record HoldsGathered (m : List Statement) (terminals node_terminals : List (Id × List Id)) (phases : List (Id × PhaseSet)) (marks : List (Id × List Mark)) : Type 0 where
+  pub of_terminals : HoldsTerminals m terminals
+  pub of_node_terminals : HoldsNodeTerminals m node_terminals
+  pub of_phases : HoldsPhases m phases
+  pub of_marks : HoldsMarks m marks

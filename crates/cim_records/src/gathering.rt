@@ -9,7 +9,8 @@ use crate::groups::Groups;
 use crate::subject::Subject;
 use crate::subjects::Subjects;
 use cim_model::named_by;
-use cim_words::{Id, KnownProp, NoMemory, Statement};
+use cim_words::{Id, KnownProp, NoMemory};
+use statement_set::StatementSet;
 
 /// Which terminals are gathered, and under what.
 #[derive(Clone, Copy, Drop)]
@@ -61,11 +62,11 @@ pub(crate) fn gather(
     groups: &mut Groups<Id>,
     gathering: Gathering,
     subjects: &Subjects,
-    statements: &[Statement],
+    statements: &StatementSet,
 ) -> Result<(), NoMemory>
     ensures { OnOk result ((x : ℕ) → members groups.new x ≡ members groups.old x ++ map as_id (spec.gathered gathering subjects.now statements.now x)) }
 {
-    for statement in statements {
+    for statement in statements.iter() {
         let Some(key) = named_by(gathering.property(), statement) else {
             continue;
         };

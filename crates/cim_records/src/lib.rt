@@ -10,8 +10,6 @@ mod run;
 mod subject;
 mod subjects;
 mod tables;
-#[cfg(test)]
-mod tests;
 
 pub use cim_words::NoMemory;
 pub use index::Index;

@@ -6,8 +6,9 @@ ghost use Rattle.cim_records.specs.Joined.{join_all, join_one, stated_by};
 
 use crate::subjects::Subjects;
 use cim_model::named_by;
-use cim_words::{Id, KnownProp, NoMemory, PhaseSet, Statement};
+use cim_words::{Id, KnownProp, NoMemory, PhaseSet};
 use indexmap::IndexMap;
+use statement_set::StatementSet;
 use std::alloc::Global;
 use std::marker::Model;
 
@@ -58,11 +59,11 @@ impl PartPhases {
         &mut self,
         known: KnownProp,
         subjects: &Subjects,
-        statements: &[Statement],
+        statements: &StatementSet,
     ) -> Result<(), NoMemory>
         ensures { OnOk result ((x : ℕ) → found self.new x ≡ join_all (found self.old x) (stated_by subjects.now statements.now known x)) }
     {
-        for statement in statements {
+        for statement in statements.iter() {
             let Some(id) = named_by(known, statement) else {
                 continue;
             };

@@ -9,28 +9,32 @@ ghost use Rattle.cim_records.specs.Subject as spec;
 
 use crate::subject::Subject;
 use cim_model::{class_of, code_of, id_of, is_by, kind_of, length_of, number_of, truth_of};
-use cim_words::{Class, Id, KnownProp, Length, Object, PhaseSet, Statement};
+use cim_words::{Class, Id, KnownProp, Length, Object, PhaseSet};
+use statement_set::About;
 
 /// All statements about one subject, and the class that they name.
-#[derive(Clone, Copy, Drop)]
+#[derive(Drop)]
 struct Run<'a> {
     class: Option<Class>,
-    statements: &'a [Statement],
+    statements: About<'a>,
 }
 
 /// What the statements about a subject say of it.
-pub(crate) fn read_subject(statements: &[Statement]) -> Subject
+pub(crate) fn read_subject(statements: &About<'_>) -> Subject
     ensures { result ≡ spec.subject_in statements.now }
 {
-    let class = class_in(statements);
-    Run { class, statements }.subject()
+    Run {
+        class: class_in(statements),
+        statements: statements.again(),
+    }
+    .subject()
 }
 
 /// The class that the first type statement with a class names.
-fn class_in(statements: &[Statement]) -> Option<Class>
+fn class_in(statements: &About<'_>) -> Option<Class>
     ensures { result ≡ spec.class_said statements.now }
 {
-    for statement in statements {
+    for statement in statements.again() {
         if !is_by(KnownProp::K1, statement) {
             continue;
         }
@@ -42,10 +46,10 @@ fn class_in(statements: &[Statement]) -> Option<Class>
 }
 
 /// The first object that statements say by a property.
-fn object_in(statements: &[Statement], known: KnownProp) -> Option<&Object>
+fn object_in<'a>(statements: &About<'a>, known: KnownProp) -> Option<&'a Object>
     ensures { option_copied result ≡ first (said_in statements.now known) }
 {
-    for statement in statements {
+    for statement in statements.again() {
         if is_by(known, statement) {
             return Some(&statement.object);
         }
@@ -56,7 +60,7 @@ fn object_in(statements: &[Statement], known: KnownProp) -> Option<&Object>
 impl<'a> Run<'a> {
     /// What the statements say of their subject.
     fn subject(&self) -> Subject
-        ensures { result ≡ spec.subject_of self.now.class self.now.statements.now }
+        ensures { result ≡ spec.subject_of self.now.class self.now.statements }
     {
         Subject {
             class: self.class,
@@ -75,7 +79,7 @@ impl<'a> Run<'a> {
 
     /// Whether a switch is open: as stated, else as it normally is, else a cut is open and every other switch closed.
     fn is_open(&self) -> bool
-        ensures { result ≡ spec.open_in self.now.class self.now.statements.now }
+        ensures { result ≡ spec.open_in self.now.class self.now.statements }
     {
         let is_cut = self.class.is_some_and(Class::is_cut);
         let normally = self.truth(KnownProp::K6).unwrap_or(is_cut);
@@ -84,7 +88,7 @@ impl<'a> Run<'a> {
 
     /// The equipment that a phase object names.
     fn equipment(&self) -> Option<Id>
-        ensures { result ≡ option_map as_id (spec.equipment_in self.now.class self.now.statements.now) }
+        ensures { result ≡ option_map as_id (spec.equipment_in self.now.class self.now.statements) }
     {
         self.id(KnownProp::K13)
             .or(self.id(KnownProp::K15))
@@ -93,7 +97,7 @@ impl<'a> Run<'a> {
 
     /// The phase that a phase object states.
     fn phase(&self) -> Option<PhaseSet>
-        ensures { result ≡ spec.phase_in self.now.class self.now.statements.now }
+        ensures { result ≡ spec.phase_in self.now.class self.now.statements }
     {
         self.kind(KnownProp::K14)
             .or(self.kind(KnownProp::K16))
@@ -102,14 +106,14 @@ impl<'a> Run<'a> {
 
     /// The segment of a clamp or a cut.
     fn segment(&self) -> Option<Id>
-        ensures { result ≡ option_map as_id (spec.segment_in self.now.class self.now.statements.now) }
+        ensures { result ≡ option_map as_id (spec.segment_in self.now.class self.now.statements) }
     {
         self.id(KnownProp::K9).or(self.id(KnownProp::K11))
     }
 
     /// How far a clamp or a cut is from its segment's terminal 1: as stated, else at it.
     fn mark_length(&self) -> Length
-        ensures { result ≡ as_length (spec.mark_length_in self.now.class self.now.statements.now) }
+        ensures { result ≡ as_length (spec.mark_length_in self.now.class self.now.statements) }
     {
         self.length(KnownProp::K10)
             .or(self.length(KnownProp::K12))
@@ -118,47 +122,47 @@ impl<'a> Run<'a> {
 
     /// The first object of a property that counts on the class.
     fn object(&self, known: KnownProp) -> Option<&'a Object>
-        ensures { option_copied result ≡ first (spec.counted self.now.class self.now.statements.now known) }
+        ensures { option_copied result ≡ first (spec.counted self.now.class self.now.statements known) }
     {
         if self.class.is_some_and(|class| known.counts_on(class)) {
-            object_in(self.statements, known)
+            object_in(&self.statements, known)
         } else {
             None
         }
     }
 
     fn id(&self, known: KnownProp) -> Option<Id>
-        ensures { result ≡ option_map as_id (spec.value_in id_said self.now.class self.now.statements.now known) }
+        ensures { result ≡ option_map as_id (spec.value_in id_said self.now.class self.now.statements known) }
     {
         id_of(self.object(known)?)
     }
 
     fn code(&self, known: KnownProp) -> Option<PhaseSet>
-        ensures { result ≡ spec.value_in code_said self.now.class self.now.statements.now known }
+        ensures { result ≡ spec.value_in code_said self.now.class self.now.statements known }
     {
         code_of(self.object(known)?)
     }
 
     fn kind(&self, known: KnownProp) -> Option<PhaseSet>
-        ensures { result ≡ spec.value_in kind_said self.now.class self.now.statements.now known }
+        ensures { result ≡ spec.value_in kind_said self.now.class self.now.statements known }
     {
         kind_of(self.object(known)?)
     }
 
     fn number(&self, known: KnownProp) -> Option<u32>
-        ensures { result ≡ spec.value_in number_said self.now.class self.now.statements.now known }
+        ensures { result ≡ spec.value_in number_said self.now.class self.now.statements known }
     {
         number_of(self.object(known)?)
     }
 
     fn length(&self, known: KnownProp) -> Option<Length>
-        ensures { result ≡ option_map as_length (spec.value_in length_said self.now.class self.now.statements.now known) }
+        ensures { result ≡ option_map as_length (spec.value_in length_said self.now.class self.now.statements known) }
     {
         length_of(self.object(known)?)
     }
 
     fn truth(&self, known: KnownProp) -> Option<bool>
-        ensures { result ≡ spec.value_in truth_said self.now.class self.now.statements.now known }
+        ensures { result ≡ spec.value_in truth_said self.now.class self.now.statements known }
     {
         truth_of(self.object(known)?)
     }

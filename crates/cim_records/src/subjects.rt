@@ -1,16 +1,15 @@
 //! The subjects of a model, found by identifier.
 
 ghost use Rattle.std.specs.Prelude.{◌≡◌, IfOk};
-ghost use Rattle.statement_set.specs.Set.{IsOrdered};
 ghost use Rattle.cim_records.specs.Found.{found, known_of};
 ghost use Rattle.cim_records.specs.Subject.{records};
 
 use crate::run::read_subject;
 use crate::subject::Subject;
-use cim_model::run_len;
-use cim_words::{Id, NoMemory, Statement};
+use cim_words::{Id, NoMemory};
 use indexmap::IndexMap;
 use indexmap::map::Iter;
+use statement_set::StatementSet;
 use std::alloc::Global;
 use std::marker::Model;
 
@@ -31,17 +30,13 @@ impl Model for Subjects {
 }
 
 impl Subjects {
-    /// The subjects of an ordered list of statements, in ascending order.
-    pub(crate) fn read(alloc: Global, statements: &[Statement]) -> Result<Subjects, NoMemory>
-        requires { IsOrdered statements.now }
+    /// The subjects of a set of statements, in ascending order.
+    pub(crate) fn read(alloc: Global, statements: &StatementSet) -> Result<Subjects, NoMemory>
         ensures { IfOk result (λ subjects. subjects ≡ records statements.now) }
     {
         let mut entries = IndexMap::new(alloc);
-        let mut rest = statements;
-        while let [first, ..] = rest {
-            let (run, after) = rest.split_at(run_len(rest));
-            entries.insert(first.subject, read_subject(run))?;
-            rest = after;
+        for (id, about) in statements.subjects() {
+            entries.insert(id, read_subject(&about))?;
         }
         Ok(Subjects { entries })
     }

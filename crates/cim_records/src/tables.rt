@@ -6,7 +6,7 @@ ghost use Rattle.cim_model.specs.Model.{is_empty};
 ghost use Rattle.cim_model.specs.Network as network;
 ghost use Rattle.cim_model.specs.Profile.{IsFaultless};
 ghost use Rattle.cim_model.specs.Values.{as_id};
-ghost use Rattle.cim_records.specs.Tables.{HoldsMarks, HoldsNodeTerminals, HoldsPhases, HoldsTerminals};
+ghost use Rattle.cim_records.specs.Tables.{HoldsGathered, HoldsMarks, HoldsNodeTerminals, HoldsPhases, HoldsTerminals};
 ghost use Rattle.cim_records.specs.Subject.{records};
 
 use crate::gathering::{Gathering, gather};
@@ -14,7 +14,7 @@ use crate::groups::Groups;
 use crate::part_phases::PartPhases;
 use crate::subject::Subject;
 use crate::subjects::Subjects;
-use cim_words::{Id, KnownProp, NoMemory, Statement};
+use cim_words::{Id, KnownProp, NoMemory};
 use segment_cuts::Mark;
 use statement_set::StatementSet;
 use std::alloc::Global;
@@ -46,32 +46,67 @@ impl Tables {
         requires { IsFaultless set.now }
         ensures { IfOk result (λ tables. tables.set ≡ set.now) }
     {
-        let statements = set.statements();
-        let subjects = Subjects::read(alloc, statements)?;
-        let terminals = terminals(alloc, &subjects, statements)?;
-        let node_terminals = node_terminals(alloc, &subjects, statements)?;
-        let phases = phases(alloc, &subjects, statements)?;
-        let marks = marks(alloc, &subjects, statements)?;
-        let equipment = equipment(alloc, &subjects, &terminals, statements)?;
-        let nodes = nodes(alloc, &subjects, statements)?;
+        Tables::of(alloc, set.share()?)
+    }
+
+    /// The tables of such a set, which they keep.
+    fn of(alloc: Global, set: StatementSet) -> Result<Tables, NoMemory>
+        requires { IsFaultless set }
+        ensures { IfOk result (λ tables. tables.set ≡ set) }
+    {
+        let subjects = Subjects::read(alloc, &set)?;
+        let gathered = gather_all(alloc, &subjects, &set)?;
+        let equipment = equipment(alloc, &subjects, &gathered.terminals, &set)?;
+        let nodes = nodes(alloc, &subjects, &set)?;
         Ok(Tables {
-            set: set.share()?,
+            set,
             subjects,
-            terminals,
-            node_terminals,
-            phases,
-            marks,
+            terminals: gathered.terminals,
+            node_terminals: gathered.node_terminals,
+            phases: gathered.phases,
+            marks: gathered.marks,
             equipment,
             nodes,
         })
     }
 }
 
+/// What is gathered from the statements of a model, each under an identifier.
+#[derive(Drop)]
+struct Gathered {
+    terminals: Groups<Id>,
+    node_terminals: Groups<Id>,
+    phases: PartPhases,
+    marks: Groups<Mark>,
+}
+
+/// All that is gathered from the statements of a model.
+fn gather_all(
+    alloc: Global,
+    subjects: &Subjects,
+    statements: &StatementSet,
+) -> Result<Gathered, NoMemory>
+    requires faultless { IsFaultless statements.now }
+    requires subjects { subjects.now ≡ records statements.now }
+    ensures { IfOk result (λ gathered. HoldsGathered statements.now gathered.terminals gathered.node_terminals gathered.phases gathered.marks) }
+{
+    let terminals = terminals(alloc, subjects, statements)?;
+    let node_terminals = node_terminals(alloc, subjects, statements)?;
+    let phases = phases(alloc, subjects, statements)?;
+    let marks = marks(alloc, subjects, statements)?;
+    Ok(Gathered {
+        terminals,
+        node_terminals,
+        phases,
+        marks,
+    })
+}
+
 /// The terminals of equipment: those of a segment and of a cut by side, others in ascending order.
 fn terminals(
     alloc: Global,
     subjects: &Subjects,
-    statements: &[Statement],
+    statements: &StatementSet,
 ) -> Result<Groups<Id>, NoMemory>
     requires faultless { IsFaultless statements.now }
     requires subjects { subjects.now ≡ records statements.now }
@@ -87,7 +122,7 @@ fn terminals(
 fn node_terminals(
     alloc: Global,
     subjects: &Subjects,
-    statements: &[Statement],
+    statements: &StatementSet,
 ) -> Result<Groups<Id>, NoMemory>
     requires faultless { IsFaultless statements.now }
     requires subjects { subjects.now ≡ records statements.now }
@@ -102,7 +137,7 @@ fn node_terminals(
 fn phases(
     alloc: Global,
     subjects: &Subjects,
-    statements: &[Statement],
+    statements: &StatementSet,
 ) -> Result<PartPhases, NoMemory>
     requires faultless { IsFaultless statements.now }
     requires subjects { subjects.now ≡ records statements.now }
@@ -119,7 +154,7 @@ fn phases(
 fn marks(
     alloc: Global,
     subjects: &Subjects,
-    statements: &[Statement],
+    statements: &StatementSet,
 ) -> Result<Groups<Mark>, NoMemory>
     requires faultless { IsFaultless statements.now }
     requires subjects { subjects.now ≡ records statements.now }
@@ -140,7 +175,7 @@ fn equipment(
     alloc: Global,
     subjects: &Subjects,
     terminals: &Groups<Id>,
-    statements: &[Statement],
+    statements: &StatementSet,
 ) -> Result<Vec<Id>, NoMemory>
     requires faultless { IsFaultless statements.now }
     requires subjects { subjects.now ≡ records statements.now }
@@ -165,7 +200,7 @@ pub(crate) fn is_equipment(subject: &Subject, terminals: &[Id]) -> bool
 }
 
 /// The connectivity nodes among the subjects, in their order.
-fn nodes(alloc: Global, subjects: &Subjects, statements: &[Statement]) -> Result<Vec<Id>, NoMemory>
+fn nodes(alloc: Global, subjects: &Subjects, statements: &StatementSet) -> Result<Vec<Id>, NoMemory>
     requires faultless { IsFaultless statements.now }
     requires subjects { subjects.now ≡ records statements.now }
     ensures { IfOk result (λ ids. ids.items ≡ map as_id (network.nodes statements.now)) }

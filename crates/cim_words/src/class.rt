@@ -139,29 +139,3 @@ impl Class {
 pub fn classes_are_named()
     ensures { (class : Class) → class_of (class_iri class) ≡ class }
 {}
-
-#[cfg(test)]
-mod tests {
-    use super::*;
-
-    #[test]
-    fn named_by_iris(rt: HostRuntime) {
-        let table = [
-            (
-                "http://iec.ch/TC57/CIM100#ACLineSegment",
-                Class::ACLineSegment,
-            ),
-            ("http://iec.ch/TC57/CIM100#Breaker", Class::Breaker),
-            ("http://iec.ch/TC57/CIM100#SwitchPhase", Class::SwitchPhase),
-            ("http://iec.ch/TC57/CIM100#breaker", Class::Other),
-            ("http://iec.ch/TC57/CIM100#Breakers", Class::Other),
-            ("http://iec.ch/TC57/CIM100#", Class::Other),
-            ("http://iec.ch/TC57/CIM16#Breaker", Class::Other),
-            ("Breaker", Class::Other),
-            ("", Class::Other),
-        ];
-        for (iri, class) in table {
-            assert!(rt; Class::of_iri(iri) == class, "at {iri}");
-        }
-    }
-}

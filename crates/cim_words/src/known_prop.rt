@@ -117,34 +117,3 @@ pub(crate) fn known_with_iri(text: &str) -> Option<KnownProp>
 pub fn known_props_are_named()
     ensures { (known : KnownProp) → known_prop (known_iri known) ≡ Some known }
 {}
-
-#[cfg(test)]
-mod tests {
-    use super::*;
-
-    #[test]
-    fn named_by_iris(rt: HostRuntime) {
-        let table = [
-            (
-                "http://www.w3.org/1999/02/22-rdf-syntax-ns#type",
-                Some(KnownProp::K1),
-            ),
-            (
-                "http://iec.ch/TC57/CIM100#Terminal.phases",
-                Some(KnownProp::K4),
-            ),
-            ("http://iec.ch/TC57/CIM100#Switch.open", Some(KnownProp::K7)),
-            (
-                "http://iec.ch/TC57/CIM100#SwitchPhase.phaseSide2",
-                Some(KnownProp::K20),
-            ),
-            ("http://iec.ch/TC57/CIM100#type", None),
-            ("http://iec.ch/TC57/CIM100#Switch.Open", None),
-            ("http://iec.ch/TC57/CIM100#IdentifiedObject.name", None),
-            ("", None),
-        ];
-        for (iri, known) in table {
-            assert!(rt; known_with_iri(iri) == known, "at {iri}");
-        }
-    }
-}

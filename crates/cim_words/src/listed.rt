@@ -88,23 +88,3 @@ impl<T> Listed<T> {
         &self.items
     }
 }
-
-#[cfg(test)]
-mod tests {
-    use super::*;
-    use std::test::Fail;
-
-    #[test]
-    fn lists_items(rt: HostRuntime) -> Result<(), Fail> {
-        let mut listed = Listed::empty(rt.alloc());
-        assert!(rt; listed.is_empty());
-        for item in [3u8, 1, 2] {
-            assert!(rt; listed.push(item).is_ok());
-        }
-        assert!(rt; listed.len() == 3);
-        assert!(rt; *listed.at(1) == 1);
-        assert!(rt; listed.as_slice() == [3, 1, 2].as_slice());
-        assert!(rt; Listed::of(listed.into_vec()).len() == 3);
-        Ok(())
-    }
-}

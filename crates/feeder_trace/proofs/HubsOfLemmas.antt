@@ -5,7 +5,8 @@ use Rattle.std.proofs.lemmas.Bool.{cases_eq, lt-ltb}
 use Rattle.std.proofs.lemmas.List.{take_more}
 use Rattle.std.proofs.lemmas.List.Elements.{Contains-append_left, Contains-push, Contains-push_cases}
 use Rattle.cim_words.specs.declared.identifier.Id.{Id}
-use Rattle.graph_pages.specs.Graph.{same_anchor}
+use Rattle.room_words.specs.Terms.{same_anchor}
+use Rattle.graph_pages.specs.Graph.{GraphView, star_in, star_of}
 use Rattle.graph_pages.specs.Walks.{line_in}
 use Rattle.graph_pages.specs.declared.star.Spoke.{Spoke}
 use Rattle.graph_pages.specs.declared.star.Star.{Star}
@@ -17,7 +18,7 @@ use Rattle.feeder_trace.specs.HubsOf.{Adds, HasAll, IsHubOf, IsPlaceOf, IsSectio
 use Rattle.feeder_trace.specs.declared.hub.Hub.{Hub}
 use Rattle.feeder_trace.specs.declared.hub.Hub.TheVariants.{Place, Section}
 use Rattle.feeder_trace.proofs.HubLemmas.{hub_exact}
-use Rattle.feeder_trace.proofs.NumberingLemmas.{cons_here, cons_there}
+use Rattle.feeder_trace.proofs.NumberingLemmas.{cons_here, cons_there, find_contains}
 use Rattle.feeder_trace.proofs.PhaseLemmas.{or_cases}
 use Rattle.feeder_trace.proofs.SpreadLemmas.{both_true}
 
@@ -104,7 +105,10 @@ section_next segment i a b c first put (Section other n) h = ⊎_elim
     last n below = ⊎_elim inl (λ apart. inr (omega (arith, below, apart))) (cases_eq n i)
 
 -- ---- all stars
-pub all_more : (stars : List Star) (star : Star) (a b c : List Hub) → HasAll stars a → Adds (IsPlaceOf star.spokes) a b → Adds (IsSectionOf star.id (section_count (line_in star.pass))) b c → HasAll (stars ++ star ∷ []) c
+abbrev pub HasOf : List Star → List Hub → Type 0
+HasOf stars hubs = (star : Star) (hub : Hub) → Contains stars star → IsHubOf star hub → Contains hubs hub
+
+pub all_more : (stars : List Star) (star : Star) (a b c : List Hub) → HasOf stars a → Adds (IsPlaceOf star.spokes) a b → Adds (IsSectionOf star.id (section_count (line_in star.pass))) b c → HasOf (stars ++ star ∷ []) c
 all_more stars star a b c before spots segments other hub has is = ⊎_elim
     (λ l. segments hub (inl (spots hub (inl (before other hub l is)))))
     (λ same. ⊎_elim
@@ -112,3 +116,7 @@ all_more stars star a b c before spots segments other hub has is = ⊎_elim
     (λ r. segments hub (inr r))
     (subst (λ (s : Star). IsHubOf s hub) (sym same) is))
     (Contains-push_cases stars star other has)
+
+-- and these are the graph's
+pub all_of : (g : GraphView) (stars : List Star) (hubs : List Hub) → ((x : ℕ) → star_in stars x ≡ star_of g x) → HasOf stars hubs → HasAll g hubs
+all_of g stars hubs same has x star hub at is = has star hub (find_contains (λ (star : Star). eqb star.id.number x) stars star (same x ∙ at)) is

@@ -1,12 +1,13 @@
 -- The phases of a terminal that takes them from its line.
 use Rattle.std.proofs.Common.{◌≡◌, Bool, true, false, cond, List, [], ◌∷◌, find, Option, Some, refl, sym, ap, ◌∙◌, subst}
 use Rattle.std.proofs.lemmas.Option.{same_Some}
-use Rattle.graph_pages.specs.Graph.{GraphView, star_of, same_term}
+use Rattle.graph_pages.specs.Graph.{GraphView, star_of}
+use Rattle.room_words.specs.Terms.{same_term}
 use Rattle.graph_pages.specs.Walks.{Line, line_at, line_in, line_phases, listed_phases, own_or_on, phases_at, spoke_phases}
 use Rattle.graph_pages.specs.declared.star.Spoke.{Spoke}
 use Rattle.graph_pages.specs.declared.star.SpokePhases.TheVariants.{OfSegment}
 use Rattle.graph_pages.specs.declared.star.Star.{Star}
-use Rattle.graph_pages.specs.declared.term.Term.{Term}
+use Rattle.room_words.specs.declared.term.Term.{Term}
 use Rattle.feeder_trace.proofs.SpreadLemmas.{spoke_is, line_is}
 use Rattle.feeder_trace.proofs.TermLemmas.{term_exact}
 

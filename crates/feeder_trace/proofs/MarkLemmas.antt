@@ -7,8 +7,8 @@ use Rattle.std.proofs.lemmas.Option.{slice_get-get_or, same_Some, slice_get_with
 use Rattle.cim_words.specs.Phases.{has_phase, has_no_phase}
 use Rattle.cim_words.specs.declared.phases.Phase.{Phase}
 use Rattle.cim_words.specs.declared.phases.PhaseSet.{PhaseSet}
-use Rattle.graph_pages.specs.Walks.{Point}
-use Rattle.graph_pages.specs.declared.term.Term.{Term}
+use Rattle.room_words.specs.declared.term.Point.{Point}
+use Rattle.room_words.specs.declared.term.Term.{Term}
 use Rattle.feeder_trace.specs.Numbering.{IsOwn}
 use Rattle.feeder_trace.specs.Search.{SearchView, IsMarked, MarksAll, AtTerm, lacking}
 use Rattle.feeder_trace.proofs.PhaseLemmas.{fewer_lack, new_phase, new_apart, new_is, or_left, or_right, or_cases}

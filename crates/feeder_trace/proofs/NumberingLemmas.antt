@@ -8,11 +8,13 @@ use Rattle.std.proofs.lemmas.Option.{same_Some}
 use Rattle.indexmap.specs.IndexMap.{insert_entry}
 use Rattle.std.proofs.lemmas.List.{take_more}
 use Rattle.std.proofs.lemmas.List.Elements.{Contains-get_or, Contains-append_right, Contains-append_cases, Contains-push_cases}
+use Rattle.cim_model.specs.Reach.{IsPoint}
 use Rattle.cim_words.specs.PhaseNames.{and_then}
 use Rattle.cim_words.specs.Phases.{has_phase}
 use Rattle.cim_words.specs.declared.phases.PhaseSet.{PhaseSet}
-use Rattle.graph_pages.specs.Graph.{GraphView, star_of}
-use Rattle.graph_pages.specs.Walks.{Point, IsPoint, HasSpoke, listed_phases, phases_at, spoke_of}
+use Rattle.graph_pages.specs.Graph.{GraphView, star_in, star_of}
+use Rattle.graph_pages.specs.Walks.{HasSpoke, listed_phases, phases_at, spoke_of, wiring}
+use Rattle.room_words.specs.declared.term.Point.{Point}
 use Rattle.graph_pages.specs.declared.star.Spoke.{Spoke}
 use Rattle.graph_pages.specs.declared.star.Star.{Star}
 use Rattle.feeder_trace.specs.Numbering.{IsTrueTo, IsNumbered, IsOwn, Enters, EntersSpokes}
@@ -20,8 +22,8 @@ use Rattle.feeder_trace.proofs.LineLemmas.{find_passes}
 use Rattle.feeder_trace.proofs.SpreadLemmas.{contains_nothing}
 use Rattle.feeder_trace.proofs.PhaseLemmas.{no_phase}
 use Rattle.feeder_trace.proofs.TermLemmas.{term_exact}
-use Rattle.graph_pages.specs.Graph.{same_term}
-use Rattle.graph_pages.specs.declared.term.Term.{Term}
+use Rattle.room_words.specs.Terms.{same_term}
+use Rattle.room_words.specs.declared.term.Term.{Term}
 use Rattle.feeder_trace.proofs.TermLemmas.{exact_by, laws_by}
 
 get_or-map : {X Y : Type 0} (f : X → Y) (xs : List X) (i : ℕ) (x : X) → slice_get xs i ≡ Some x → get_or (map f xs) i (f x) ≡ f x
@@ -165,13 +167,13 @@ contains_term (s ∷ ss) spoke h = ⊎_elim
     (λ r. cons_there s.term (map (λ (s : Spoke). s.term) ss) spoke.term (contains_term ss spoke r))
     (cons_cases s ss spoke h)
 
-module _ (g : GraphView) (terminals : List (Term × PhaseSet)) (all : EntersStars g g.stars terminals) (a : Point) (point : IsPoint g a) where
+module _ (g : GraphView) (stars : List Star) (terminals : List (Term × PhaseSet)) (same : (x : ℕ) → star_in stars x ≡ star_of g x) (all : EntersStars g stars terminals) (a : Point) (point : IsPoint (wiring g) a) where
   own_spoke : (star : Star) → star_of g a.term.owner.number ≡ Some star → (o : Option Spoke) → find (λ (spoke : Spoke). same_term spoke.term a.term) star.spokes ≡ o → spoke_of g a.term ≡ o → IsOwn terminals a
   own_spoke star at None is spoke = absurd (no_phase a.phase (subst (λ (set : PhaseSet). IsTrue (has_phase set a.phase)) (ap (listed_phases g) spoke) point))
   own_spoke star at (Some spoke) is has =
-      let same : spoke.term ≡ a.term = term_exact spoke.term a.term (find_passes (λ (spoke : Spoke). same_term spoke.term a.term) star.spokes spoke is) in
+      let here : spoke.term ≡ a.term = term_exact spoke.term a.term (find_passes (λ (spoke : Spoke). same_term spoke.term a.term) star.spokes spoke is) in
       let stands = contains_term star.spokes spoke (find_contains (λ (spoke : Spoke). same_term spoke.term a.term) star.spokes spoke is) in
-      (phases_at g a.term, all.has star (find_contains (λ (star : Star). eqb star.id.number a.term.owner.number) g.stars star at) a.term (subst (HasSpoke star) same stands), point)
+      (phases_at g a.term, all.has star (find_contains (λ (star : Star). eqb star.id.number a.term.owner.number) stars star (same a.term.owner.number ∙ at)) a.term (subst (HasSpoke star) here stands), point)
 
   own_star : (o : Option Star) → star_of g a.term.owner.number ≡ o → IsOwn terminals a
   own_star None at = absurd (no_phase a.phase (subst (λ (set : PhaseSet). IsTrue (has_phase set a.phase))
@@ -184,8 +186,8 @@ module _ (g : GraphView) (terminals : List (Term × PhaseSet)) (all : EntersStar
   numbered_at = own_star (star_of g a.term.owner.number) refl
 
 -- all stars are gone over
-pub is_numbered : (g : GraphView) (terminals : List (Term × PhaseSet)) → EntersStars g g.stars terminals → IsNumbered g terminals
-is_numbered g terminals all = record { sound = all.true_to; complete = λ a point. numbered_at g terminals all a point }
+pub is_numbered : (g : GraphView) (stars : List Star) (terminals : List (Term × PhaseSet)) → ((x : ℕ) → star_in stars x ≡ star_of g x) → EntersStars g stars terminals → IsNumbered g terminals
+is_numbered g stars terminals same all = record { sound = all.true_to; complete = λ a point. numbered_at g stars terminals same all a point }
 
 pub stars_push : (stars : List (Bor Star)) (star : Bor Star) → map (λ (s : Bor Star). s.now) (stars ++ star ∷ []) ≡ map (λ (s : Bor Star). s.now) stars ++ star.now ∷ []
 stars_push [] star = refl

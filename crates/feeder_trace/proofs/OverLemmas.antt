@@ -6,8 +6,9 @@ use Rattle.cim_words.specs.declared.identifier.Id.{Id}
 use Rattle.cim_words.specs.declared.phases.Phase.{Phase}
 use Rattle.cim_words.specs.declared.phases.PhaseSet.{PhaseSet}
 use Rattle.graph_pages.specs.Graph.{GraphView, members_of}
-use Rattle.graph_pages.specs.Walks.{Line, Point, line_of, place_at}
-use Rattle.graph_pages.specs.declared.term.Term.{Term}
+use Rattle.graph_pages.specs.Walks.{Line, line_of, place_at}
+use Rattle.room_words.specs.declared.term.Point.{Point}
+use Rattle.room_words.specs.declared.term.Term.{Term}
 use Rattle.room_words.specs.declared.anchor.Anchor.{Anchor}
 use Rattle.feeder_trace.specs.Hubs.{HubsView, GoesOver, IsGone}
 use Rattle.feeder_trace.specs.Numbering.{IsOwn}

@@ -13,7 +13,7 @@ use Rattle.cim_model.specs.Trace.{Row, Lists}
 use Rattle.graph_pages.specs.Graph.{GraphView, star_of}
 use Rattle.graph_pages.specs.Walks.{CountsFor, line_of, line_phases}
 use Rattle.graph_pages.specs.declared.star.Star.{Star}
-use Rattle.graph_pages.specs.declared.term.Term.{Term}
+use Rattle.room_words.specs.declared.term.Term.{Term}
 use Rattle.feeder_trace.specs.Rows.{AddsParts, Counted, HavePhases}
 use Rattle.feeder_trace.specs.Search.{SearchView, IsAt, IsSet}
 use Rattle.feeder_trace.proofs.RowLemmas.{lists_in, lists_out}

@@ -7,7 +7,7 @@ use Rattle.std.proofs.lemmas.Option.{same_Some, slice_get_within, get_or_from_sl
 use Rattle.cim_words.specs.Phases.{has_phase, has_no_phase}
 use Rattle.cim_words.specs.declared.phases.Phase.{Phase}
 use Rattle.cim_words.specs.declared.phases.PhaseSet.{PhaseSet}
-use Rattle.graph_pages.specs.declared.term.Term.{Term}
+use Rattle.room_words.specs.declared.term.Term.{Term}
 use Rattle.feeder_trace.specs.Marks.{MarksView, Joins}
 use Rattle.feeder_trace.specs.Room.{HasRoom, view_of}
 use Rattle.feeder_trace.specs.Search.{unmarked, lacking}

@@ -1,20 +1,23 @@
 -- How the points to which current goes on are marked, step by step.
-use Rattle.std.proofs.Common.{find, ◌&&◌, ◌≡◌, ◌+◌, ◌<◌, ◌⊎◌, ℕ, Bool, true, false, List, [], ◌∷◌, ◌++◌, length, map, take, get_or, Option, Some, None, IsTrue, Contains, refl, sym, ap, ◌∙◌, subst, inl, inr, ⊎_elim, arith}
+use Rattle.std.proofs.Common.{find, ◌&&◌, ◌≡◌, ◌+◌, ◌<◌, ◌⊎◌, ℕ, Bool, true, false, not, List, [], ◌∷◌, ◌++◌, length, map, take, get_or, Option, Some, None, IsTrue, Contains, refl, sym, ap, ◌∙◌, subst, inl, inr, ⊎_elim, arith}
 use Rattle.std.proofs.lemmas.List.{take_more}
 use Rattle.std.proofs.lemmas.List.Elements.{Contains-append_left, Contains-push, Contains-push_cases}
 use Rattle.cim_words.specs.Phases.{has_phase}
 use Rattle.cim_words.specs.declared.phases.PhaseSet.{PhaseSet}
 use Rattle.cim_words.specs.declared.phases.Phase.{Phase}
 use Rattle.cim_words.specs.PhaseNames.{and_then}
+use Rattle.cim_model.specs.Links.{lets_through}
 use Rattle.cim_model.specs.Phases.{Transforms}
-use Rattle.graph_pages.specs.Graph.{GraphView, star_of, same_term}
-use Rattle.graph_pages.specs.Walks.{Point, Line, HasSpoke, Passes, line_at, line_in, own_or_on, place_at, spoke_of}
+use Rattle.graph_pages.specs.Graph.{GraphView, star_of}
+use Rattle.room_words.specs.Terms.{same_term}
+use Rattle.graph_pages.specs.Walks.{Line, HasSpoke, Passes, line_at, line_in, own_or_on, place_at, spoke_of}
+use Rattle.room_words.specs.declared.term.Point.{Point}
 use Rattle.graph_pages.specs.declared.star.Pass.{Pass}
 use Rattle.graph_pages.specs.declared.star.Pass.TheVariants as pass
 use Rattle.graph_pages.specs.declared.star.Star.{Star}
 use Rattle.std.proofs.lemmas.Option.{same_Some}
 use Rattle.graph_pages.specs.declared.star.Spoke.{Spoke}
-use Rattle.graph_pages.specs.declared.term.Term.{Term}
+use Rattle.room_words.specs.declared.term.Term.{Term}
 use Rattle.feeder_trace.specs.Search.{SearchView, MarksAll, AtTerm}
 use Rattle.feeder_trace.specs.Spread.{AmongMembers, AmongSpokes, AtPlaceOf, AlongLineOf, InSectionOf, InSections, JoinedFrom, PassedFrom}
 use Rattle.feeder_trace.proofs.MarkLemmas.{marks_nothing, marks_more, marks_as}
@@ -179,13 +182,13 @@ same_marks star t phases a b is =
     ((λ e. some_none x.term e), subst (λ (q : Phase). IsTrue (has_phase phases q)) same asked))
     (λ x stays asked. (x.phase, asked, subst (λ (way : Pass). Passes way (record { term = t; phase = x.phase }) x) (sym is) refl))
 
-pub closed_marks : (star : Star) (t : Term) (phases : PhaseSet) (is_open : Bool) (a b : SearchView) → star.pass ≡ pass.Switch is_open → is_open ≡ false → MarksAll (AmongSpokes star.spokes None phases) a b → MarksAll (PassedFrom star t phases) a b
+pub closed_marks : (star : Star) (t : Term) (phases : PhaseSet) (is_open : Bool) (a b : SearchView) → star.pass ≡ pass.Switch is_open → is_open ≡ false → MarksAll (AmongSpokes star.spokes (Some t) phases) a b → MarksAll (PassedFrom star t phases) a b
 closed_marks star t phases is_open a b is closed =
-    passes_as star t None phases phases a b
+    passes_as star t (Some t) phases phases a b
     (λ p x asked passes.
-    let same : (is_open ≡ false) × (p ≡ x.phase) = subst (λ (way : Pass). Passes way (record { term = t; phase = p }) x) is passes in
-    ((λ e. some_none x.term e), subst (λ (q : Phase). IsTrue (has_phase phases q)) same.1 asked))
-    (λ x stays asked. (x.phase, asked, subst (λ (way : Pass). Passes way (record { term = t; phase = x.phase }) x) (sym is) (closed, refl)))
+    let way : (t ≡ x.term → ⊥) × IsTrue (lets_through is_open p) × (p ≡ x.phase) = subst (λ (way : Pass). Passes way (record { term = t; phase = p }) x) is passes in
+    ((λ e. way.0 (sym (same_Some x.term t e))), subst (λ (q : Phase). IsTrue (has_phase phases q)) way.2 asked))
+    (λ x stays asked. (x.phase, asked, subst (λ (way : Pass). Passes way (record { term = t; phase = x.phase }) x) (sym is) ((λ e. stays (ap Some (sym e))), ap not closed, refl)))
 
 pub transformer_marks : (star : Star) (t : Term) (phases made : PhaseSet) (a b : SearchView) → star.pass ≡ pass.Transformer → ((q : Phase) → IsTrue (has_phase made q) → (p : Phase) × IsTrue (has_phase phases p) × Transforms p q) → ((p q : Phase) → IsTrue (has_phase phases p) → Transforms p q → IsTrue (has_phase made q))
     → MarksAll (AmongSpokes star.spokes (Some t) made) a b → MarksAll (PassedFrom star t phases) a b

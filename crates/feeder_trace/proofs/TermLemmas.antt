@@ -5,10 +5,10 @@ use Rattle.std.proofs.lemmas.List.Elements.{Contains-get_or, Contains-append_rig
 use Rattle.feeder_trace.proofs.PhaseLemmas.{or_left, or_right, or_cases}
 use Rattle.std.specs.Cmp.{IsEquivalence}
 use Rattle.cim_words.specs.declared.identifier.Id.{Id}
-use Rattle.graph_pages.specs.Graph.{same_key, same_term}
-use Rattle.graph_pages.specs.declared.term.Term.{Term}
-use Rattle.graph_pages.specs.declared.term.TermKey.{TermKey}
-use Rattle.graph_pages.specs.declared.term.TermKey.TheVariants.{Real, Side}
+use Rattle.room_words.specs.Terms.{same_key, same_term}
+use Rattle.room_words.specs.declared.term.Term.{Term}
+use Rattle.room_words.specs.declared.term.TermKey.{TermKey}
+use Rattle.room_words.specs.declared.term.TermKey.TheVariants.{Real, Side}
 
 both : (a b : Bool) → (a && b) ≡ true → (a ≡ true) × (b ≡ true)
 both true true h = (refl, refl)

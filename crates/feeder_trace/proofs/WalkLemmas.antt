@@ -2,14 +2,15 @@
 use Rattle.std.proofs.Common.{slice_get, Option, ◌≡◌, ◌⊎◌, ◌+◌, ◌<◌, ℕ, List, [], ◌∷◌, ◌++◌, length, Some, None, IsTrue, Contains, refl, sym, ap, ◌∙◌, subst, inl, inr, ⊎_elim, arith, length-append}
 use Rattle.std.proofs.lemmas.List.Elements.{Contains-append_left, Contains-push, Contains-push_cases}
 use Rattle.std.proofs.lemmas.Option.{same_Some}
-use Rattle.cim_model.specs.Reach.{Leads, Reaches}
+use Rattle.cim_model.specs.Reach.{IsPoint, IsPointReached, IsStart, Leads, Linked, Reaches}
 use Rattle.cim_words.specs.Phases.{has_phase}
 use Rattle.cim_words.specs.declared.phases.Phase.{Phase}
 use Rattle.cim_words.specs.declared.phases.PhaseSet.{PhaseSet}
 use Rattle.graph_pages.specs.Graph.{GraphView, star_of}
-use Rattle.graph_pages.specs.Walks.{Point, IsPoint, IsStart, Joined, Linked, Walks, HasSpoke}
+use Rattle.graph_pages.specs.Walks.{HasSpoke, Joined, wiring}
+use Rattle.room_words.specs.declared.term.Point.{Point}
 use Rattle.graph_pages.specs.declared.star.Star.{Star}
-use Rattle.graph_pages.specs.declared.term.Term.{Term}
+use Rattle.room_words.specs.declared.term.Term.{Term}
 use Rattle.feeder_trace.specs.Numbering.{IsOwn, IsNumbered}
 use Rattle.feeder_trace.specs.Search.{SearchView, IsSet, IsMarked, IsPopped, MarksAll, Waits, unmarked}
 use Rattle.feeder_trace.specs.Spread.{AmongSpokes, JoinedFrom}
@@ -39,15 +40,15 @@ reaches_induction link start P begins carried v r = leads_induction link P carri
 
 -- Where a search stands: what is marked is walked, each start is marked, and so is each point linked from a marked one that does not wait.
 pub record IsWalk (g : GraphView) (x : ℕ) (asked : PhaseSet) (v : SearchView) : Type 0 where
-  pub sound : (a : Point) → IsMarked v a → Walks g x asked a
-  pub begun : (a : Point) → IsStart g x asked a → IsMarked v a
+  pub sound : (a : Point) → IsMarked v a → IsPointReached (wiring g) x asked a
+  pub begun : (a : Point) → IsStart (wiring g) x asked a → IsMarked v a
   pub waiting : (a : Point) → Waits v a → IsMarked v a
-  pub closed : (a b : Point) → IsMarked v a → Linked g a b → Waits v a ⊎ IsMarked v b
+  pub closed : (a b : Point) → IsMarked v a → Linked (wiring g) a b → Waits v a ⊎ IsMarked v b
 
-walks_point : (g : GraphView) (x : ℕ) (asked : PhaseSet) (a : Point) → Walks g x asked a → IsPoint g a
-walks_point g x asked = reaches_induction (Linked g) (IsStart g x asked) (IsPoint g) (λ a s. s.point) (λ b c at next. next.to)
+walks_point : (g : GraphView) (x : ℕ) (asked : PhaseSet) (a : Point) → IsPointReached (wiring g) x asked a → IsPoint (wiring g) a
+walks_point g x asked = reaches_induction (Linked (wiring g)) (IsStart (wiring g) x asked) (IsPoint (wiring g)) (λ a s. s.point) (λ b c at next. next.to)
 
-own_point : (g : GraphView) (terminals : List (Term × PhaseSet)) → IsNumbered g terminals → (a : Point) → IsOwn terminals a → IsPoint g a
+own_point : (g : GraphView) (terminals : List (Term × PhaseSet)) → IsNumbered g terminals → (a : Point) → IsOwn terminals a → IsPoint (wiring g) a
 own_point g terminals numbered a (phases, has, holds) = subst (λ (s : PhaseSet). IsTrue (has_phase s a.phase)) (numbered.sound a.term phases has) holds
 
 -- when the star's terminals are marked, and nothing else
@@ -58,11 +59,12 @@ walk_begins g x star asked a b numbered at unmarked_all none m =
     record {
       sound = λ c h. ⊎_elim
           (λ old. absurd (nothing_marked c old))
-          (λ new. reaches_start (Linked g) (IsStart g x asked) c (record { star = star; of_source = at; listed = new.0.0; point = own_point g a.terminals numbered c new.1; in_asked = new.0.2 }))
+          (λ new. reaches_start (Linked (wiring g)) (IsStart (wiring g) x asked) c (record { of_source = (star, at, new.0.0); point = own_point g a.terminals numbered c new.1; in_asked = new.0.2 }))
           (m.only c h);
       begun = λ c s.
-          let same : s.star ≡ star = same_Some s.star star (sym s.of_source ∙ at) in
-          m.marked c (subst (λ (st : Star). HasSpoke st c.term) same s.listed, (λ e. some_none c.term e), s.in_asked) (numbered.complete c s.point);
+          let (own, at', listed) = s.of_source in
+          let same : own ≡ star = same_Some own star (sym at' ∙ at) in
+          m.marked c (subst (λ (st : Star). HasSpoke st c.term) same listed, (λ e. some_none c.term e), s.in_asked) (numbered.complete c s.point);
       waiting = λ c w. ⊎_elim (λ old. absurd (nothing_waits c old)) (λ h. h) (m.waits_only c w);
       closed = λ c d h next. ⊎_elim (λ old. absurd (nothing_marked c old)) (λ new. inl new.2) (m.only c h);
     }
@@ -82,7 +84,7 @@ walk_goes_on g x asked next a b c numbered walk popped m =
           (λ (may, own, waits).
           let from : Point = record { term = next.0; phase = may.0 } in
           let walked = walk.sound from (popped_marked may.0 may.1) in
-          reaches_step (Linked g) (IsStart g x asked) from y walked (record { from = walks_point g x asked from walked; to = own_point g b.terminals numbered_b y own; joined = may.2 }))
+          reaches_step (Linked (wiring g)) (IsStart (wiring g) x asked) from y walked (record { from = walks_point g x asked from walked; to = own_point g b.terminals numbered_b y own; joined = may.2 }))
           (m.only y h);
       begun = λ y s. m.kept y (forth y (walk.begun y s));
       waiting = λ y w. ⊎_elim
@@ -105,9 +107,9 @@ walk_goes_on g x asked next a b c numbered walk popped m =
     }
 
 -- when nothing waits, what is walked is marked
-pub walk_ends : (g : GraphView) (x : ℕ) (asked : PhaseSet) (v : SearchView) → IsWalk g x asked v → v.pending ≡ [] → (a : Point) → Walks g x asked a → IsMarked v a
+pub walk_ends : (g : GraphView) (x : ℕ) (asked : PhaseSet) (v : SearchView) → IsWalk g x asked v → v.pending ≡ [] → (a : Point) → IsPointReached (wiring g) x asked a → IsMarked v a
 walk_ends g x asked v walk none =
-    reaches_induction (Linked g) (IsStart g x asked) (IsMarked v) walk.begun
+    reaches_induction (Linked (wiring g)) (IsStart (wiring g) x asked) (IsMarked v) walk.begun
     (λ b c h next. ⊎_elim
     (λ waits. contains_nothing (b.term, waits.0) (subst (λ (ws : List (Term × PhaseSet)). Contains ws (b.term, waits.0)) none waits.1))
     (λ there. there)

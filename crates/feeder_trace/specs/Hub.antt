@@ -1,6 +1,6 @@
 -- When two places or sections are one.
 use Rattle.std.specs.Prelude.{Bool, false, ◌==◌, ◌&&◌}
-use Rattle.graph_pages.specs.Graph.{same_anchor}
+use Rattle.room_words.specs.Terms.{same_anchor}
 use Rattle.feeder_trace.specs.declared.hub.Hub.{Hub}
 use Rattle.feeder_trace.specs.declared.hub.Hub.TheVariants as hub
 

@@ -1,6 +1,7 @@
 -- The places and sections of a graph.
 use Rattle.std.specs.Prelude.{ℕ, ◌≡◌, ◌⊎◌, ◌<◌, List, Option, None, Some, Contains, length, map}
 use Rattle.cim_words.specs.declared.identifier.Id.{Id}
+use Rattle.graph_pages.specs.Graph.{GraphView, star_of}
 use Rattle.graph_pages.specs.Walks.{Line, line_in}
 use Rattle.graph_pages.specs.declared.star.Spoke.{Spoke}
 use Rattle.graph_pages.specs.declared.star.Star.{Star}
@@ -30,9 +31,9 @@ IsHubOf star hub = IsPlaceOf star.spokes hub ⊎ IsSectionOf star.id (section_co
 abbrev pub Adds : (Hub → Type 0) → List Hub → List Hub → Type 0
 Adds more old new = (hub : Hub) → Contains old hub ⊎ more hub → Contains new hub
 
--- all places and sections of some stars are in a list; they have a number
-abbrev pub HasAll : List Star → List Hub → Type 0
-HasAll stars hubs = (star : Star) (hub : Hub) → Contains stars star → IsHubOf star hub → Contains hubs hub
+-- all places and sections of a graph are in a list; they have a number
+abbrev pub HasAll : GraphView → List Hub → Type 0
+HasAll g hubs = (x : ℕ) (star : Star) (hub : Hub) → star_of g x ≡ Some star → IsHubOf star hub → Contains hubs hub
 
-abbrev pub AreNumbered : List Star → HubsView → Type 0
-AreNumbered stars v = (star : Star) (hub : Hub) → Contains stars star → IsHubOf star hub → (i : ℕ) × HasNumber v hub i
+abbrev pub AreNumbered : GraphView → HubsView → Type 0
+AreNumbered g v = (x : ℕ) (star : Star) (hub : Hub) → star_of g x ≡ Some star → IsHubOf star hub → (i : ℕ) × HasNumber v hub i

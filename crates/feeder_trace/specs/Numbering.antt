@@ -1,11 +1,13 @@
 -- Lists of terminals, each with its phases.
 use Rattle.std.specs.Prelude.{◌≡◌, ◌⊎◌, List, IsTrue, Contains, map}
+use Rattle.cim_model.specs.Reach.{IsPoint}
 use Rattle.cim_words.specs.Phases.{has_phase}
 use Rattle.cim_words.specs.declared.phases.PhaseSet.{PhaseSet}
 use Rattle.graph_pages.specs.Graph.{GraphView}
-use Rattle.graph_pages.specs.Walks.{Point, IsPoint, phases_at}
+use Rattle.graph_pages.specs.Walks.{phases_at, wiring}
+use Rattle.room_words.specs.declared.term.Point.{Point}
 use Rattle.graph_pages.specs.declared.star.Spoke.{Spoke}
-use Rattle.graph_pages.specs.declared.term.Term.{Term}
+use Rattle.room_words.specs.declared.term.Term.{Term}
 
 -- the phase is one of those that the list has for the terminal
 abbrev pub IsOwn : List (Term × PhaseSet) → Point → Type 0
@@ -18,7 +20,7 @@ IsTrueTo g terminals = (t : Term) (phases : PhaseSet) → Contains terminals (t,
 -- the list has the terminals of a graph that have a phase
 pub record IsNumbered (g : GraphView) (terminals : List (Term × PhaseSet)) : Type 0 where
   pub sound : IsTrueTo g terminals
-  pub complete : (a : Point) → IsPoint g a → IsOwn terminals a
+  pub complete : (a : Point) → IsPoint (wiring g) a → IsOwn terminals a
 
 -- what is in the list stays or takes new phases, and the terminal is in it with these phases
 pub record Enters (t : Term) (phases : PhaseSet) (old new : List (Term × PhaseSet)) : Type 0 where

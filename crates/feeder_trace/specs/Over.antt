@@ -3,8 +3,9 @@ use Rattle.std.specs.Prelude.{◌≡◌, List, Some, slice_get, IsTrue, Contains
 use Rattle.cim_words.specs.Phases.{has_phase}
 use Rattle.cim_words.specs.declared.phases.PhaseSet.{PhaseSet}
 use Rattle.graph_pages.specs.Graph.{GraphView, members_of}
-use Rattle.graph_pages.specs.Walks.{Line, Point, line_of}
-use Rattle.graph_pages.specs.declared.term.Term.{Term}
+use Rattle.graph_pages.specs.Walks.{Line, line_of}
+use Rattle.room_words.specs.declared.term.Point.{Point}
+use Rattle.room_words.specs.declared.term.Term.{Term}
 use Rattle.feeder_trace.specs.Hubs.{HubsView, IsGone}
 use Rattle.feeder_trace.specs.Numbering.{IsOwn}
 use Rattle.feeder_trace.specs.Search.{SearchView, IsMarked}

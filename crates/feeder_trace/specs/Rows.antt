@@ -8,7 +8,7 @@ use Rattle.cim_words.specs.declared.phases.Phase.{Phase}
 use Rattle.cim_model.specs.Trace.{Row, Lists}
 use Rattle.graph_pages.specs.Graph.{GraphView}
 use Rattle.graph_pages.specs.Walks.{CountsFor}
-use Rattle.graph_pages.specs.declared.term.Term.{Term}
+use Rattle.room_words.specs.declared.term.Term.{Term}
 use Rattle.feeder_trace.specs.Search.{SearchView, IsMarked}
 
 -- each row has a phase

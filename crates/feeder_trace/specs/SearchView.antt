@@ -1,7 +1,7 @@
 -- What contracts see of a search.
 use Rattle.std.specs.Prelude.{ℕ, List}
 use Rattle.cim_words.specs.declared.phases.PhaseSet.{PhaseSet}
-use Rattle.graph_pages.specs.declared.term.Term.{Term}
+use Rattle.room_words.specs.declared.term.Term.{Term}
 
 -- the terminals with their phases, the phases in which each was reached, the terminals with the phases from which nobody has gone
 -- on, and the numbers of the terminals that were reached

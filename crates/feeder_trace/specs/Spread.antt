@@ -4,10 +4,11 @@ use Rattle.cim_words.specs.Phases.{has_phase}
 use Rattle.cim_words.specs.declared.phases.Phase.{Phase}
 use Rattle.cim_words.specs.declared.phases.PhaseSet.{PhaseSet}
 use Rattle.graph_pages.specs.Graph.{GraphView}
-use Rattle.graph_pages.specs.Walks.{Point, Line, AtPlace, HasSpoke, InSection, Joined, Passes}
+use Rattle.graph_pages.specs.Walks.{Line, AtPlace, HasSpoke, InSection, Joined, Passes}
+use Rattle.room_words.specs.declared.term.Point.{Point}
 use Rattle.graph_pages.specs.declared.star.Spoke.{Spoke}
 use Rattle.graph_pages.specs.declared.star.Star.{Star}
-use Rattle.graph_pages.specs.declared.term.Term.{Term}
+use Rattle.room_words.specs.declared.term.Term.{Term}
 
 -- the point is reached by some link from one of the terminal's points in these phases
 abbrev pub From : (Point → Point → Type 0) → Term → PhaseSet → Point → Type 0

@@ -38,7 +38,7 @@ impl Model for Hubs {
 impl Hubs {
     /// The hubs of a graph, with the memory for all marks.
     pub(crate) fn of(alloc: Global, graph: &Graph) -> Result<Hubs, NoMemory>
-        ensures { IfOk result (λ hubs. AreNumbered graph.now.stars hubs) }
+        ensures { IfOk result (λ hubs. AreNumbered graph.now hubs) }
     {
         let hubs = hubs_of(alloc, graph)?;
         let gone = Marks::new(alloc, hubs.len())?;
@@ -73,7 +73,7 @@ impl Hubs {
 
 /// The places where the spokes of a graph stand, and the sections of its lines.
 fn hubs_of(alloc: Global, graph: &Graph) -> Result<IndexSet<Hub>, NoMemory>
-    ensures { IfOk result (λ hubs. HasAll graph.now.stars hubs.keys) }
+    ensures { IfOk result (λ hubs. HasAll graph.now hubs.keys) }
 {
     let mut hubs = IndexSet::new(alloc);
     for star in graph.stars() {

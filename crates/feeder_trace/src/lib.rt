@@ -2,7 +2,6 @@
 #![tactic(auto)]
 
 mod capacity;
-mod compare;
 mod gather;
 mod hub;
 mod hubs;
@@ -13,8 +12,6 @@ mod phases;
 mod search;
 mod spread;
 mod terminals;
-#[cfg(test)]
-mod tests;
 mod tracer;
 mod walk;
 

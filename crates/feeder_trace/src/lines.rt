@@ -1,14 +1,15 @@
 //! What the graph says of a terminal: its place, its line and its phases.
 
 ghost use Rattle.std.specs.Prelude.{◌≡◌, Option, Some, IfSome, option_map, find};
-ghost use Rattle.graph_pages.specs.Graph.{same_term, star_of};
+ghost use Rattle.graph_pages.specs.Graph.{star_of};
+ghost use Rattle.room_words.specs.Terms.{same_term};
 ghost use Rattle.graph_pages.specs.Walks.{line_in, line_of, line_phases, line_at, own_or_on, phases_at};
 ghost use Rattle.graph_pages.specs.declared.star.Spoke.{Spoke};
 ghost use Rattle.feeder_trace.specs.Lines.{shown_line};
 
-use crate::compare::terms_are_compared;
 use cim_words::{Id, PhaseSet};
 use graph_pages::{Graph, Pass, Sections, Spoke, SpokePhases, Star, Term};
+use room_words::terms_are_compared;
 
 /// A segment, its phases, and the terminals on it, section by section.
 #[derive(Clone, Copy)]

@@ -3,7 +3,7 @@
 ghost use Rattle.std.specs.Prelude.{◌≡◌, ℕ, ◌≤◌, [], length, IfOk, IfSome, IfNone, Contains, Some, slice_get};
 ghost use Rattle.cim_words.specs.declared.phases.Phase.{Phase};
 ghost use Rattle.cim_words.specs.declared.phases.PhaseSet.{PhaseSet};
-ghost use Rattle.graph_pages.specs.declared.term.Term.{Term};
+ghost use Rattle.room_words.specs.declared.term.Term.{Term};
 ghost use Rattle.feeder_trace.specs.Search.{IsAt, IsPopped, IsSet, MarksAll, AtTerm};
 
 use crate::capacity::{put_within, times};

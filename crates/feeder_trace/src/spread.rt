@@ -6,7 +6,6 @@ ghost use Rattle.feeder_trace.specs.Over.{IsOver};
 ghost use Rattle.feeder_trace.specs.Search.{MarksAll};
 ghost use Rattle.feeder_trace.specs.Spread.{AlongLineOf, AmongMembers, AmongSpokes, AtPlaceOf, JoinedFrom, PassedFrom};
 
-use crate::compare::terms_are_compared;
 use crate::hub::Hub;
 use crate::hubs::Hubs;
 use crate::lines::{line_under, spoke_in};
@@ -14,6 +13,7 @@ use crate::phases::transformed;
 use crate::search::Search;
 use cim_words::PhaseSet;
 use graph_pages::{Graph, Pass, Spoke, Star, Term};
+use room_words::terms_are_compared;
 
 /// Marks all to which current goes on from a terminal in some phases.
 pub(crate) fn spread(
@@ -105,7 +105,7 @@ fn through_star(search: &mut Search, star: &Star, term: Term, phases: PhaseSet)
         Pass::Same => reach_spokes(search, spokes, None, phases),
         Pass::Switch { is_open } => {
             if !*is_open {
-                reach_spokes(search, spokes, None, phases);
+                reach_spokes(search, spokes, Some(term), phases);
             }
         }
         Pass::Transformer => reach_spokes(search, spokes, Some(term), transformed(phases)),

@@ -4,15 +4,15 @@ ghost use Rattle.std.specs.Prelude.{◌≡◌, ◌∷◌, ◌++◌, ℕ, [], len
 ghost use Rattle.graph_pages.specs.Walks.{phases_at};
 ghost use Rattle.graph_pages.specs.declared.star.Star.{Star};
 ghost use Rattle.graph_pages.specs.declared.star.Spoke.{Spoke};
-ghost use Rattle.graph_pages.specs.declared.term.Term.{Term};
+ghost use Rattle.room_words.specs.declared.term.Term.{Term};
 ghost use Rattle.cim_words.specs.declared.phases.PhaseSet.{PhaseSet};
 ghost use Rattle.feeder_trace.specs.Numbering.{IsNumbered, Enters, EntersSpokes};
 
-use crate::compare::terms_are_compared;
 use crate::lines::phases_of_term;
 use cim_words::{NoMemory, PhaseSet};
 use graph_pages::{Graph, Spoke, Term};
 use indexmap::IndexMap;
+use room_words::terms_are_compared;
 use std::alloc::Global;
 use std::marker::Model;
 
@@ -24,7 +24,7 @@ pub(crate) struct Terminals {
 
 impl Model for Terminals {
     ghost use Rattle.std.specs.Prelude.{List};
-    ghost use Rattle.graph_pages.specs.declared.term.Term.{Term};
+    ghost use Rattle.room_words.specs.declared.term.Term.{Term};
     ghost use Rattle.cim_words.specs.declared.phases.PhaseSet.{PhaseSet};
 
     ghost Value = { List (Term × PhaseSet) };

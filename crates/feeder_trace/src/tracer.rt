@@ -1,9 +1,12 @@
 //! Tracing.
 
-ghost use Rattle.std.specs.Prelude.{◌≡◌, ◌↔◌, ◌<◌, [], length, slice_index_or, None, IfOk, IsErr, OnOk, OnErr};
+ghost use Rattle.std.specs.Prelude.{◌≡◌, ◌↔◌, ◌*◌, ◌<◌, ◌≤◌, [], length, slice_index_or, None, IfOk, IsErr, OnOk, OnErr};
+ghost use Rattle.std.specs.Vec.{vec_capacity};
+ghost use Rattle.cim_model.specs.Reach.{IsReached};
 ghost use Rattle.cim_model.specs.Trace.{IsTrace};
 ghost use Rattle.graph_pages.specs.Graph.{star_of};
-ghost use Rattle.graph_pages.specs.Walks.{IsReached};
+ghost use Rattle.graph_pages.specs.Walks.{wiring};
+ghost use Rattle.feeder_trace.specs.Numbering.{IsNumbered};
 
 use crate::capacity::times;
 use crate::gather::gather;
@@ -51,14 +54,13 @@ impl Tracer {
         ensures graph { IfOk result (λ tracer. tracer.graph ≡ graph.now) }
         ensures rows { IfOk result (λ tracer. tracer.rows ≡ []) }
     {
-        let search = Search::new(alloc, Terminals::of(alloc, graph)?)?;
-        let most = times(search.len(), 2)?;
+        let search = search_over(alloc, graph)?;
         Ok(Tracer {
             graph: graph.share()?,
-            search,
             hubs: Hubs::of(alloc, graph)?,
-            parts: Vec::with_capacity(alloc, most)?,
-            rows: Vec::with_capacity(alloc, most)?,
+            parts: room_for_rows(alloc, &search)?,
+            rows: room_for_rows(alloc, &search)?,
+            search,
         })
     }
 
@@ -66,7 +68,7 @@ impl Tracer {
     pub fn trace(&mut self, graph: &Graph, start: Id, phases: PhaseSet) -> Result<(), NoSuch>
         requires { self.old.graph ≡ graph.now }
         ensures graph { self.new.graph ≡ self.old.graph }
-        ensures traced { OnOk result (IsTrace (IsReached graph.now start.number phases) self.new.rows) }
+        ensures traced { OnOk result (IsTrace (IsReached (wiring graph.now) start.number phases) self.new.rows) }
         ensures no_such { IsErr result ↔ (star_of graph.now start.number ≡ None) }
         ensures kept { OnErr result (self.new ≡ self.old) }
     {
@@ -91,4 +93,20 @@ impl Tracer {
     {
         self.rows[index]
     }
+}
+
+/// A search over the terminals of a graph that has not begun.
+fn search_over(alloc: Global, graph: &Graph) -> Result<Search, NoMemory>
+    ensures { IfOk result (λ search. IsNumbered graph.now search.terminals) }
+{
+    Search::new(alloc, Terminals::of(alloc, graph)?)
+}
+
+/// No rows, with the memory for all that a search can lead to: each terminal counts for its owner and for one segment.
+fn room_for_rows(alloc: Global, search: &Search) -> Result<Vec<(Id, PhaseSet)>, NoMemory>
+    ensures none { IfOk result (λ rows. rows.items ≡ []) }
+    ensures room { IfOk result (λ rows. 2 * length search.now.terminals ≤ vec_capacity rows) }
+{
+    let most = times(search.len(), 2)?;
+    Vec::with_capacity(alloc, most)
 }

@@ -1,9 +1,11 @@
 //! A search from the terminals of a star.
 
 ghost use Rattle.std.specs.Prelude.{◌≡◌, ◌↔◌, ℕ, [], Some};
+ghost use Rattle.cim_model.specs.Reach.{IsPointReached};
 ghost use Rattle.cim_words.specs.declared.phases.Phase.{Phase};
 ghost use Rattle.graph_pages.specs.Graph.{star_of};
-ghost use Rattle.graph_pages.specs.Walks.{Point, Walks};
+ghost use Rattle.graph_pages.specs.Walks.{wiring};
+ghost use Rattle.room_words.specs.declared.term.Point.{Point};
 ghost use Rattle.feeder_trace.specs.Numbering.{IsNumbered};
 ghost use Rattle.feeder_trace.specs.Search.{IsMarked, IsSet};
 
@@ -24,7 +26,7 @@ pub(crate) fn walk(
     requires terminals { IsNumbered graph.now search.old.terminals }
     requires star { star_of graph.now star.now.id.number ≡ Some star.now }
     ensures terminals { search.new.terminals ≡ search.old.terminals }
-    ensures walked { (a : Point) → IsMarked search.new a ↔ Walks graph.now star.now.id.number phases a }
+    ensures walked { (a : Point) → IsMarked search.new a ↔ IsPointReached (wiring graph.now) star.now.id.number phases a }
 {
     search.clear();
     hubs.clear();

@@ -13,7 +13,8 @@ use Rattle.std.proofs.lemmas.Map.Lookups.{exact_unsigned}
 use Rattle.std.proofs.lemmas.Map.Made.{update_all_none}
 use Rattle.std.proofs.lemmas.Map.Keys.{IsDistinct-from_sorted}
 use Rattle.cim_words.specs.declared.identifier.Id.{Id}
-use Rattle.graph_pages.specs.Graph.{star_in, same_anchor}
+use Rattle.graph_pages.specs.Graph.{star_in}
+use Rattle.room_words.specs.Terms.{same_anchor}
 use Rattle.graph_pages.specs.Held.{HoldsById, star_by_id}
 use Rattle.graph_pages.specs.declared.star.Star.{Star}
 use Rattle.room_words.specs.declared.anchor.Anchor.{Anchor}

@@ -1,21 +1,24 @@
--- How current goes through a graph, read off its stars and members: from point to point, a point being a terminal in one of its phases.
-use Rattle.std.specs.Prelude.{ℕ, ◌≡◌, ◌⊎◌, List, false, IsTrue, Option, Some, None, Contains, find, option_map, map}
+-- How current goes through a graph, read off its stars and members, from point to point: a graph as a wiring.
+use Rattle.std.specs.Prelude.{ℕ, ◌≡◌, ◌⊎◌, List, IsTrue, Option, Some, None, Contains, find, option_map, map}
+use Rattle.cim_model.specs.Links.{lets_through}
 use Rattle.cim_model.specs.Phases.{no_phases, Transforms}
-use Rattle.cim_model.specs.Reach.{Reaches}
+use Rattle.cim_model.specs.Reach.{Wiring}
 use Rattle.cim_words.specs.PhaseNames.{and_then}
 use Rattle.cim_words.specs.Phases.{has_phase}
 use Rattle.cim_words.specs.declared.identifier.Id.{Id}
 use Rattle.cim_words.specs.declared.phases.Phase.{Phase}
 use Rattle.cim_words.specs.declared.phases.PhaseSet.{PhaseSet}
-use Rattle.graph_pages.specs.Graph.{GraphView, star_of, members_of, same_term}
+use Rattle.graph_pages.specs.Graph.{GraphView, star_of, members_of}
 use Rattle.graph_pages.specs.declared.star.Pass.{Pass}
 use Rattle.graph_pages.specs.declared.star.Pass.TheVariants as pass
 use Rattle.graph_pages.specs.declared.star.Spoke.{Spoke}
 use Rattle.graph_pages.specs.declared.star.SpokePhases.{SpokePhases}
 use Rattle.graph_pages.specs.declared.star.SpokePhases.TheVariants as phases
 use Rattle.graph_pages.specs.declared.star.Star.{Star}
-use Rattle.graph_pages.specs.declared.term.Term.{Term}
+use Rattle.room_words.specs.Terms.{same_term}
 use Rattle.room_words.specs.declared.anchor.Anchor.{Anchor}
+use Rattle.room_words.specs.declared.term.Point.{Point}
+use Rattle.room_words.specs.declared.term.Term.{Term}
 
 -- a terminal as the star of its owner lists it
 abbrev pub spoke_of : GraphView → Term → Option Spoke
@@ -65,14 +68,6 @@ phases_at g t = listed_phases g (spoke_of g t)
 abbrev pub place_at : GraphView → Term → Option Anchor
 place_at g t = and_then (spoke_of g t) (λ (spoke : Spoke). spoke.at)
 
-pub record Point : Type 0 where
-  pub term : Term
-  pub phase : Phase
-
--- the phase is one of the terminal's
-abbrev pub IsPoint : GraphView → Point → Type 0
-IsPoint g a = IsTrue (has_phase (phases_at g a.term) a.phase)
-
 -- a star lists a terminal
 abbrev pub HasSpoke : Star → Term → Type 0
 HasSpoke star t = Contains (map (λ (spoke : Spoke). spoke.term) star.spokes) t
@@ -91,7 +86,7 @@ InSection g a b =
 
 abbrev pub Passes : Pass → Point → Point → Type 0
 Passes pass.Same a b = a.phase ≡ b.phase
-Passes (pass.Switch is_open) a b = (is_open ≡ false) × (a.phase ≡ b.phase)
+Passes (pass.Switch is_open) a b = (a.term ≡ b.term → ⊥) × IsTrue (lets_through is_open a.phase) × (a.phase ≡ b.phase)
 Passes pass.Transformer a b = (a.term ≡ b.term → ⊥) × Transforms a.phase b.phase
 Passes _ a b = ⊥
 
@@ -101,23 +96,9 @@ ThroughStar g a b = (star : Star) × (star_of g a.term.owner.number ≡ Some sta
 abbrev pub Joined : GraphView → Point → Point → Type 0
 Joined g a b = AtPlace g a b ⊎ InSection g a b ⊎ ThroughStar g a b
 
--- points are linked where they are joined
-pub record Linked (g : GraphView) (a b : Point) : Type 0 where
-  pub from : IsPoint g a
-  pub to : IsPoint g b
-  pub joined : Joined g a b
-
--- a walk from the star of x in some phases starts at the star's terminals, in those of their phases that are among them
-pub record IsStart (g : GraphView) (x : ℕ) (asked : PhaseSet) (a : Point) : Type 0 where
-  pub star : Star
-  pub of_source : star_of g x ≡ Some star
-  pub listed : HasSpoke star a.term
-  pub point : IsPoint g a
-  pub in_asked : IsTrue (has_phase asked a.phase)
-
--- a walk leads to a point
-abbrev pub Walks : GraphView → ℕ → PhaseSet → Point → Type 0
-Walks g x asked b = Reaches (Linked g) (IsStart g x asked) b
+-- a walk from x starts at the terminals that the star of x lists
+abbrev pub StartsAt : GraphView → ℕ → Term → Type 0
+StartsAt g x t = (star : Star) × (star_of g x ≡ Some star) × HasSpoke star t
 
 -- a terminal counts for what owns it, and in the phases of a line also for the segment on which its owner stands
 abbrev pub StandsOn : GraphView → Term → ℕ → Phase → Type 0
@@ -128,8 +109,6 @@ StandsOn g t y p =
 abbrev pub CountsFor : GraphView → Term → ℕ → Phase → Type 0
 CountsFor g t y p = (t.owner.number ≡ y) ⊎ StandsOn g t y p
 
--- y is reached from x in a phase where a walk leads to the phase of a terminal that counts for it
-pub record IsReached (g : GraphView) (x : ℕ) (asked : PhaseSet) (y : ℕ) (p : Phase) : Type 0 where
-  pub term : Term
-  pub counts : CountsFor g term y p
-  pub reached : Walks g x asked (record { term = term; phase = p })
+-- the wiring of a graph; a walk through a graph is a walk through its wiring
+abbrev pub wiring : GraphView → Wiring
+wiring g = record { phases = phases_at g; starts = StartsAt g; joined = Joined g; counts = CountsFor g }

@@ -4,17 +4,16 @@ ghost use Rattle.std.specs.Prelude.{◌≡◌, ℕ, ◌+◌, ◌≤◌, Some, If
 ghost use Rattle.std.specs.List.{IsDistinct};
 ghost use Rattle.std.specs.BTreeMap.{Updates, insert_entry};
 ghost use Rattle.std.specs.Map.{keys_of};
-ghost use Rattle.std.specs.Ordering.{is_eq};
-ghost use Rattle.graph_pages.specs.Graph.{members_in, members_of, same_anchor, star_in, star_of};
+ghost use Rattle.graph_pages.specs.Graph.{members_in, members_of, star_in, star_of};
 ghost use Rattle.graph_pages.specs.Held.{HoldsById, star_by_id};
 ghost use Rattle.graph_pages.specs.declared.star.Star.{Star};
+ghost use Rattle.room_words.specs.Terms.{same_anchor};
 ghost use Rattle.room_words.specs.declared.anchor.Anchor.{Anchor};
 
 use crate::graph::{Graph, Maps};
 use crate::star::Star;
-use crate::term::Members;
 use cim_words::{Id, NoMemory};
-use room_words::Anchor;
+use room_words::{Anchor, Members, places_are_compared};
 use std::alloc::Global;
 use std::collections::BTreeMap;
 use std::sync::Arc;
@@ -75,7 +74,7 @@ fn members_by_place<L: Ledger>(
     ensures ticks { OnOk result (steps.new ≡ steps.old + length places.items) }
     ensures bound { steps.new ≤ steps.old + length places.items }
 {
-    places_are_told_apart();
+    places_are_compared();
     let mut map = BTreeMap::new(alloc);
     for (place, members) in places {
         steps.tick();
@@ -91,73 +90,4 @@ fn put<K: Ord + Drop, V: Drop>(map: &mut BTreeMap<K, V>, key: K, value: V) -> Re
 {
     map.insert(key, value)?;
     Ok(())
-}
-
-/// The order of places is equal just at one place.
-fn places_are_told_apart()
-    ensures { (a b : Anchor) → is_eq (⟦<Anchor as Ord>⟧.cmp a b) ≡ same_anchor a b }
-{}
-
-#[cfg(test)]
-mod tests {
-    use super::*;
-    use crate::star::{Pass, Spoke, SpokePhases};
-    use crate::term::{Term, TermKey};
-    use cim_words::{Class, Listed, PhaseSet};
-    use std::marker::Brand;
-    use std::sync::ledger::Blank;
-    use std::test::Fail;
-
-    /// A busbar section with one terminal at a node.
-    fn busbar(alloc: Global, id: u128, terminal: u128, node: u128) -> Result<Star, NoMemory>
-        ensures { IfOk result (λ star. star.id.number ≡ id) }
-    {
-        let mut spokes = Vec::new(alloc);
-        spokes.push(Spoke {
-            term: term(id, terminal),
-            at: Some(Anchor::Node(Id::of(node))),
-            phases: SpokePhases::Own(PhaseSet::ABC),
-        })?;
-        Ok(Star {
-            id: Id::of(id),
-            class: Class::BusbarSection,
-            on: None,
-            spokes: Listed::of(spokes),
-            pass: Pass::Same,
-        })
-    }
-
-    fn term(owner: u128, terminal: u128) -> Term {
-        Term {
-            owner: Id::of(owner),
-            key: TermKey::Real(Id::of(terminal)),
-        }
-    }
-
-    /// Two busbar sections at one node.
-    fn two_busbars<L: Ledger>(alloc: Global, blank: Blank) -> Result<Graph, NoMemory>
-        requires name { blank.name ≡ L.name }
-        requires parts { blank.parts ≡ L.parts }
-        requires some { blank.parts ≡ 1 }
-    {
-        let stars = vec![in alloc; busbar(alloc, 1, 11, 100)?, busbar(alloc, 2, 12, 100)?]?;
-        let members = vec![in alloc; term(1, 11), term(2, 12)]?;
-        let places = vec![in alloc; (Anchor::Node(Id::of(100)), Listed::of(members))]?;
-        Graph::build(alloc, stars, places, &mut Steps::<L>::of(blank))
-    }
-
-    #[test]
-    fn finds_stars_and_members(rt: HostRuntime) -> Result<(), Fail> {
-        let graph = two_busbars::<Brand>(rt.alloc(), Blank::new(1))?.share()?;
-        for (id, count) in [(1, 1), (2, 1), (3, 0)] {
-            let spokes = graph.star(Id::of(id)).map_or(0, |star| star.spokes.len());
-            assert_eq!(rt; spokes, count, "at {id}");
-        }
-        for (node, count) in [(100, 2), (101, 0)] {
-            let members = graph.members(Anchor::Node(Id::of(node)));
-            assert_eq!(rt; members.map_or(0, |terms| terms.len()), count, "at {node}");
-        }
-        assert_eq!(rt; graph.stars().count(), 2);
-        Ok(())
-    }
 }

@@ -1,15 +1,14 @@
 //! The graph.
 
-ghost use Rattle.std.specs.Prelude.{◌≡◌, IfOk, map, nat_eq, option_copied};
+ghost use Rattle.std.specs.Prelude.{◌≡◌, ℕ, IfOk, map, nat_eq, option_copied};
+ghost use Rattle.std.specs.Iterator.{YieldsFirstRef, item_count};
 ghost use Rattle.std.specs.List.{IsDistinct};
-ghost use Rattle.std.specs.Map.Iter.{ShowsInOrder, deref};
-ghost use Rattle.graph_pages.specs.Graph.{star_of, members_of};
+ghost use Rattle.graph_pages.specs.Graph.{members_of, star_in, star_of};
 ghost use Rattle.graph_pages.specs.declared.star.Star.{Star};
 
 use crate::star::Star;
-use crate::term::Members;
 use cim_words::{Id, NoMemory};
-use room_words::Anchor;
+use room_words::{Anchor, Members};
 use std::collections::BTreeMap;
 use std::collections::btree_map::Values;
 use std::marker::Model;
@@ -21,9 +20,6 @@ pub(crate) struct Maps {
     pub(crate) stars: BTreeMap<Id, Star>,
     pub(crate) places: BTreeMap<Anchor, Members>,
 }
-
-/// Goes over the stars of a graph.
-pub type Stars<'a> = Values<'a, Id, Star>;
 
 /// Two finite maps, which are shared and do not change: from equipment and items to their stars, and from places to their members.
 #[derive(Drop)]
@@ -59,13 +55,14 @@ impl Graph {
         self.shared.places.get(&place)
     }
 
-    /// Goes over the stars, each once.
+    /// Goes over the stars, each once, in no stated order: a look-up among them gives what a look-up in the graph gives.
     pub fn stars(&self) -> Stars<'_>
-        ensures rest { result ≡ self.now.stars }
-        ensures runs { ShowsInOrder (deref {X = Star}) }
-        ensures once { IsDistinct nat_eq (map (λ (star : Star). star.id.number) self.now.stars) }
+        ensures same { (x : ℕ) → star_in result x ≡ star_of self.now x }
+        ensures once { IsDistinct nat_eq (map (λ (star : Star). star.id.number) result) }
     {
-        self.shared.stars.values()
+        Stars {
+            rest: self.shared.stars.values(),
+        }
     }
 
     /// The same graph once more.
@@ -75,5 +72,32 @@ impl Graph {
         Ok(Graph {
             shared: Arc::try_clone(&self.shared)?,
         })
+    }
+}
+
+/// Goes over the stars of a graph.
+#[derive(Drop)]
+pub struct Stars<'a> {
+    rest: Values<'a, Id, Star>,
+}
+
+impl<'a> Model for Stars<'a> {
+    ghost use Rattle.std.specs.Prelude.{List};
+    ghost use Rattle.graph_pages.specs.declared.star.Star.{Star};
+
+    ghost Value = { List Star };
+
+    ghost view = { λ stars. stars.rest };
+}
+
+impl<'a> Iterator for Stars<'a> {
+    type Item = &'a Star;
+
+    ghost next_gives = { YieldsFirstRef (λ stars. stars) };
+
+    ghost remaining = { item_count (λ stars. stars) };
+
+    fn next(&mut self) -> Option<&'a Star> {
+        self.rest.next()
     }
 }

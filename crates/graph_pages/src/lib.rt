@@ -4,9 +4,8 @@
 mod build;
 mod graph;
 mod star;
-mod term;
 
 pub use cim_words::NoMemory;
 pub use graph::{Graph, Stars};
-pub use star::{Pass, Section, Sections, Spoke, SpokePhases, Spokes, Star};
-pub use term::{Members, Term, TermKey};
+pub use room_words::{Members, Term, TermKey};
+pub use star::{Pass, Sections, Spoke, SpokePhases, Spokes, Star};

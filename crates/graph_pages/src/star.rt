@@ -1,8 +1,7 @@
 //! What a graph says of one piece of equipment or temporary item.
 
-use crate::term::{Members, Term};
 use cim_words::{Class, Id, Listed, PhaseSet};
-use room_words::Anchor;
+use room_words::{Anchor, Members, Term};
 
 /// The phases of a terminal.
 #[derive(Clone, Copy, Debug, PartialEq, Eq)]
@@ -27,11 +26,8 @@ pub struct Spoke {
 /// The terminals of one star.
 pub type Spokes = Listed<Spoke>;
 
-/// The terminals that a segment joins where no cut lies between them.
-pub type Section = Members;
-
-/// The sections of a segment, from its terminal 1 to its terminal 2.
-pub type Sections = Listed<Section>;
+/// The terminals on a segment, section by section, from its terminal 1 to its terminal 2.
+pub type Sections = Listed<Members>;
 
 /// How current passes between the terminals of a star.
 #[derive(Drop)]

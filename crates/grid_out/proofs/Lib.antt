@@ -1,3 +1,4 @@
 pub mod FaultLaws
+pub mod NoteLaws
 mod ShelfReads
 pub mod SinkLaws

@@ -72,6 +72,11 @@ impl Files {
         }
     }
 
+    /// Where these files take their memory.
+    pub(crate) fn alloc(&self) -> Global {
+        self.alloc
+    }
+
     /// Adds a file at the end.
     pub fn add(&mut self, name: &str, content: &[u8]) -> Result<(), NoMemory>
         ensures ok { OnOk result (self.new ≡ self.old ++ (name.now, content.now) ∷ []) }

@@ -1,12 +1,13 @@
 //! A shelf in memory, whose calls fail where they are told to.
 
-ghost use Rattle.std.specs.Prelude.{◌≡◌, ℕ, ◌≤◌, ◌<◌, ◌↔◌, List, [], length, IfSome, IfOk, OnOk, OnErr, IsErrOf, IsTrue, IsFalse};
+ghost use Rattle.std.specs.Prelude.{◌≡◌, ℕ, ◌≤◌, ◌<◌, ◌↔◌, List, [], ◌∷◌, length, Some, IfSome, IfOk, OnOk, OnErr, IsErrOf, IsTrue, IsFalse};
 ghost use Rattle.grid_out.specs.Faults.{CountsFaults};
 ghost use Rattle.grid_out.specs.Files.{content_of};
-ghost use Rattle.grid_out.specs.Shelf.{is_failed, shelf_after, shelf_fails};
+ghost use Rattle.grid_out.specs.Shelf.{AsksFor, is_failed, shelf_after, shelf_fails};
 
 use crate::failure::NoMemory;
 use crate::file_list::Files;
+use crate::notes::Notes;
 use crate::reading::{Shelf, ShelfFault, copy_within};
 use std::alloc::Global;
 use std::marker::Model;
@@ -19,6 +20,7 @@ pub struct MemShelf {
     failing: Vec<u64>,
     calls: u64,
     faults: u64,
+    asked: Notes,
 }
 
 impl Model for MemShelf {
@@ -31,20 +33,30 @@ impl Model for MemShelf {
       failing = shelf.failing.items;
       calls = shelf.calls;
       faults = shelf.faults;
+      asked = shelf.asked;
     } };
 }
 
 impl MemShelf {
     /// A shelf of these files, whose calls of the listed numbers fail.
     pub fn new(alloc: Global, files: Files, failing: &[u64]) -> Result<MemShelf, NoMemory>
-        ensures { IfOk result (λ shelf. shelf ≡ record { files = files; failing = failing.now; calls = 0; faults = 0 }) }
+        ensures { IfOk result (λ shelf. shelf ≡
+            record { files = files; failing = failing.now; calls = 0; faults = 0; asked = Some [] }) }
     {
         Ok(MemShelf {
             files,
             failing: Vec::from_slice(alloc, failing)?,
             calls: 0,
             faults: 0,
+            asked: Notes::new(alloc),
         })
+    }
+
+    /// The names that it was asked for.
+    pub fn asked(&self) -> &Notes
+        ensures { result.now ≡ self.now.asked }
+    {
+        &self.asked
     }
 }
 
@@ -52,6 +64,8 @@ impl Shelf for MemShelf {
     ghost faults = { λ shelf. shelf.faults };
 
     ghost content = { λ shelf. content_of shelf.files };
+
+    ghost asked = { λ shelf. shelf.asked };
 
     fn read_whole(&mut self, name: &str, cap: u64, into: &mut Vec<u8>) -> Result<(), ShelfFault>
         ensures ok { OnOk result
@@ -64,15 +78,17 @@ impl Shelf for MemShelf {
         ensures err { OnErr result (into.new.items ≡ []) }
         ensures kept { (other : List ℕ)
             → content_of self.new.files other ≡ content_of self.old.files other }
+        ensures asks { AsksFor self.old.asked self.new.asked (name.now ∷ []) }
         ensures cause { CountsFaults self.old.faults self.new.faults (is_failed result) }
 
         ensures fails { IsErrOf result ShelfFault.Failed ↔ IsTrue (shelf_fails self.old name.now) }
         ensures too_long { IsErrOf result ShelfFault.Longer
             ↔ (IsFalse (shelf_fails self.old name.now)
             × IfSome (content_of self.old.files name.now) (λ bytes. cap < length bytes)) }
-        ensures after { self.new ≡ shelf_after self.old name.now }
+        ensures after { self.new ≡ shelf_after self.old name.now self.new.asked }
     {
         into.clear();
+        self.asked.add(name.as_bytes());
         self.calls = self.calls.saturating_add(1);
         let listed = self.failing.contains(&self.calls);
         match self.files.find(name) {
@@ -82,41 +98,5 @@ impl Shelf for MemShelf {
                 Err(ShelfFault::Failed)
             }
         }
-    }
-}
-
-#[cfg(test)]
-mod tests {
-    use super::*;
-    use std::test::Fail;
-
-    fn read<F: Shelf>(
-        shelf: &mut F,
-        name: &str,
-        cap: u64,
-        into: &mut Vec<u8>,
-    ) -> Result<(), ShelfFault> {
-        shelf.read_whole(name, cap, into)
-    }
-
-    #[test]
-    fn reads_by_name(rt: HostRuntime) -> Result<(), Fail> {
-        let mut files = Files::empty(rt.alloc());
-        files.add("base", b"abc")?;
-        files.add("base", b"later")?;
-        let mut shelf = MemShelf::new(rt.alloc(), files, &[3])?;
-        let mut into = Vec::from_slice(rt.alloc(), b"old")?;
-        for (name, cap, answer, bytes) in [
-            ("base", 9, Ok(()), "abc"),
-            ("other", 9, Err(ShelfFault::Failed), ""),
-            ("base", 2, Err(ShelfFault::Failed), ""),
-            ("base", 2, Err(ShelfFault::Longer), ""),
-            ("base", 3, Ok(()), "abc"),
-        ] {
-            let given = read(&mut shelf, name, cap, &mut into);
-            assert_eq!(rt; given, answer, "{name} within {cap}");
-            assert_eq!(rt; into.as_slice(), bytes.as_bytes(), "{name} within {cap}");
-        }
-        Ok(())
     }
 }

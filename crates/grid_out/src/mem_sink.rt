@@ -1,10 +1,11 @@
 //! A sink in memory, whose calls fail where they are told to and where its room ends.
 
-ghost use Rattle.std.specs.Prelude.{◌≡◌, ◌↔◌, [], Some, IfOk, OnOk, OnErr, IsErr, IsTrue, is_err};
+ghost use Rattle.std.specs.Prelude.{◌≡◌, ◌↔◌, [], ◌∷◌, Some, IfOk, OnOk, OnErr, IsErr, IsTrue, is_err};
 ghost use Rattle.grid_out.specs.Faults.{CountsFaults};
-ghost use Rattle.grid_out.specs.Sink.{Gains, GainsPrefix, sink_after, sink_fails};
+ghost use Rattle.grid_out.specs.Sink.{Gains, GainsPrefix, Hands, sink_after, sink_fails};
 
 use crate::failure::{Failed, NoMemory};
+use crate::notes::Notes;
 use crate::writing::Sink;
 use std::alloc::Global;
 use std::marker::Model;
@@ -18,6 +19,7 @@ pub struct MemSink {
     failing: Vec<u64>,
     calls: u64,
     faults: u64,
+    handed: Notes,
 }
 
 impl Model for MemSink {
@@ -32,6 +34,7 @@ impl Model for MemSink {
       failing = sink.failing.items;
       calls = sink.calls;
       faults = sink.faults;
+      handed = sink.handed;
     } };
 
     // The memory is taken beforehand, so that a write needs none.
@@ -42,7 +45,7 @@ impl MemSink {
     /// A sink of room for this many bytes, whose memory is taken now, and whose calls of the listed numbers fail.
     pub fn new(alloc: Global, room: usize, failing: &[u64]) -> Result<MemSink, NoMemory>
         ensures { IfOk result (λ sink. sink ≡
-            record { written = []; room = room; failing = failing.now; calls = 0; faults = 0 }) }
+            record { written = []; room = room; failing = failing.now; calls = 0; faults = 0; handed = Some [] }) }
     {
         Ok(MemSink {
             bytes: Vec::with_capacity(alloc, room)?,
@@ -50,7 +53,15 @@ impl MemSink {
             failing: Vec::from_slice(alloc, failing)?,
             calls: 0,
             faults: 0,
+            handed: Notes::new(alloc),
         })
+    }
+
+    /// The pieces that were handed to it, also those that it refused.
+    pub fn handed(&self) -> &Notes
+        ensures { result.now ≡ self.now.handed }
+    {
+        &self.handed
     }
 
     /// The bytes written so far.
@@ -66,16 +77,20 @@ impl Sink for MemSink {
 
     ghost written = { λ sink. Some sink.written };
 
+    ghost handed = { λ sink. sink.handed };
+
     fn write_all(&mut self, piece: &[u8]) -> Result<(), Failed>
         ensures ok { OnOk result
             (Gains (Some self.old.written) (Some self.new.written) piece.now) }
         ensures failed { OnErr result
             (GainsPrefix (Some self.old.written) (Some self.new.written) piece.now) }
+        ensures hands { Hands self.old.handed self.new.handed (piece.now ∷ []) }
         ensures cause { CountsFaults self.old.faults self.new.faults (is_err result) }
 
         ensures fails { IsErr result ↔ IsTrue (sink_fails self.old piece.now) }
-        ensures after { self.new ≡ sink_after self.old piece.now }
+        ensures after { self.new ≡ sink_after self.old piece.now self.new.handed }
     {
+        self.handed.add(piece);
         self.calls = self.calls.saturating_add(1);
         if self.failing.contains(&self.calls) {
             self.faults = self.faults.saturating_add(1);
@@ -88,41 +103,6 @@ impl Sink for MemSink {
             self.faults = self.faults.saturating_add(1);
             return Err(Failed);
         }
-        Ok(())
-    }
-}
-
-#[cfg(test)]
-mod tests {
-    use super::*;
-    use std::test::Fail;
-
-    fn write<K: Sink>(sink: &mut K, piece: &str) -> Result<(), Failed> {
-        sink.write_all(piece.as_bytes())
-    }
-
-    #[test]
-    fn writes_up_to_its_room(rt: HostRuntime) -> Result<(), Fail> {
-        let mut sink = MemSink::new(rt.alloc(), 6, &[2])?;
-        for (piece, answer, written) in [
-            ("ab", Ok(()), "ab"),
-            ("cd", Err(Failed), "ab"),
-            ("cd", Ok(()), "abcd"),
-            ("ef", Ok(()), "abcdef"),
-            ("g", Err(Failed), "abcdef"),
-            ("", Ok(()), "abcdef"),
-        ] {
-            assert_eq!(rt; write(&mut sink, piece), answer, "at {piece}");
-            assert_eq!(rt; sink.written(), written.as_bytes(), "after {piece}");
-        }
-        Ok(())
-    }
-
-    #[test]
-    fn fills_its_room(rt: HostRuntime) -> Result<(), Fail> {
-        let mut sink = MemSink::new(rt.alloc(), 3, &[])?;
-        assert_eq!(rt; write(&mut sink, "abcd"), Err(Failed));
-        assert_eq!(rt; sink.written(), b"abc".as_slice());
         Ok(())
     }
 }

@@ -1,8 +1,8 @@
 //! The trait by which named content is read, and how a read may end.
 
-ghost use Rattle.std.specs.Prelude.{◌≡◌, ℕ, ◌≤◌, ◌<◌, ◌↔◌, List, [], length, Option, IfSome, OnOk, OnErr, IsErrOf, false};
+ghost use Rattle.std.specs.Prelude.{◌≡◌, ℕ, ◌≤◌, ◌<◌, ◌↔◌, List, [], ◌∷◌, length, Option, IfSome, OnOk, OnErr, IsErrOf, false};
 ghost use Rattle.grid_out.specs.Faults.{CountsFaults};
-ghost use Rattle.grid_out.specs.Shelf.{is_failed};
+ghost use Rattle.grid_out.specs.Shelf.{AsksFor, is_failed};
 ghost use Rattle.grid_out.specs.declared.reading.ShelfFault.TheVariants.{NoMemory as no_memory};
 
 use crate::failure::NoMemory;
@@ -38,6 +38,9 @@ pub trait Shelf {
     // What the shelf tells of a name, where it tells anything.
     ghost content: { Self → List ℕ → Option (List ℕ) };
 
+    // The names that it was asked for so far, where it tells them.
+    ghost asked: { Self → Option (List (List ℕ)) };
+
     /// Reads the content of `name` into `into`, whose old content is dropped first.
     /// Content of more than `cap` bytes is `Longer`.
     fn read_whole(&mut self, name: &str, cap: u64, into: &mut Vec<u8>) -> Result<(), ShelfFault>
@@ -50,6 +53,7 @@ pub trait Shelf {
             → IfSome (content self.old name.now) (λ bytes. cap < length bytes) }
         ensures err { OnErr result (into.new.items ≡ []) }
         ensures kept { (other : List ℕ) → content self.new other ≡ content self.old other }
+        ensures asks { AsksFor (asked self.old) (asked self.new) (name.now ∷ []) }
         ensures cause { CountsFaults (faults self.old) (faults self.new) (is_failed result) };
 }
 

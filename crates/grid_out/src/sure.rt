@@ -1,11 +1,12 @@
 //! A shelf and a sink that never fail: over them a program has no fault to answer.
 
-ghost use Rattle.std.specs.Prelude.{◌≡◌, ℕ, ◌≤◌, ◌<◌, ◌↔◌, List, [], length, Some, None, OnOk, OnErr, IsErrOf};
+ghost use Rattle.std.specs.Prelude.{◌≡◌, ℕ, ◌≤◌, ◌<◌, ◌↔◌, List, [], ◌∷◌, length, Some, None, OnOk, OnErr, IsErrOf};
 ghost use Rattle.grid_out.specs.Faults.{CountsFaults};
-ghost use Rattle.grid_out.specs.Shelf.{is_failed, content_or_empty};
+ghost use Rattle.grid_out.specs.Shelf.{AsksFor, is_failed, content_or_empty};
 
 use crate::failure::Failed;
 use crate::file_list::Files;
+use crate::notes::Notes;
 use crate::reading::{Shelf, ShelfFault, copy_within};
 use crate::writing::Sink;
 use std::marker::Model;
@@ -14,40 +15,53 @@ use std::marker::Model;
 #[derive(Drop)]
 pub struct SureShelf {
     files: Files,
+    asked: Notes,
 }
 
 impl Model for SureShelf {
-    ghost use Rattle.std.specs.Prelude.{ℕ, List};
+    ghost use Rattle.grid_out.specs.Shelf.{SureState};
 
-    ghost Value = { List (List ℕ × List ℕ) };
+    ghost Value = { SureState };
 
-    ghost view = { λ shelf. shelf.files };
+    ghost view = { λ shelf. record { files = shelf.files; asked = shelf.asked } };
 }
 
 impl SureShelf {
     /// A shelf of these files.
     pub fn new(files: Files) -> SureShelf
-        ensures { result ≡ files }
+        ensures { result ≡ record { files = files; asked = Some [] } }
     {
-        SureShelf { files }
+        let asked = Notes::new(files.alloc());
+        SureShelf { files, asked }
+    }
+
+    /// The names that it was asked for.
+    pub fn asked(&self) -> &Notes
+        ensures { result.now ≡ self.now.asked }
+    {
+        &self.asked
     }
 }
 
 impl Shelf for SureShelf {
     ghost faults = { λ _. 0 };
 
-    ghost content = { λ files name. Some (content_or_empty files name) };
+    ghost content = { λ shelf name. Some (content_or_empty shelf.files name) };
+
+    ghost asked = { λ shelf. shelf.asked };
 
     fn read_whole(&mut self, name: &str, cap: u64, into: &mut Vec<u8>) -> Result<(), ShelfFault>
-        ensures ok { OnOk result (into.new.items ≡ content_or_empty self.old name.now) }
-        ensures within_cap { OnOk result (length (content_or_empty self.old name.now) ≤ cap) }
+        ensures ok { OnOk result (into.new.items ≡ content_or_empty self.old.files name.now) }
+        ensures within_cap { OnOk result (length (content_or_empty self.old.files name.now) ≤ cap) }
         ensures read_within { OnOk result (length into.new.items ≤ cap) }
         ensures longer { IsErrOf result ShelfFault.Longer
-            ↔ (cap < length (content_or_empty self.old name.now)) }
+            ↔ (cap < length (content_or_empty self.old.files name.now)) }
         ensures err { OnErr result (into.new.items ≡ []) }
-        ensures kept { self.new ≡ self.old }
+        ensures kept { self.new.files ≡ self.old.files }
+        ensures asks { AsksFor self.old.asked self.new.asked (name.now ∷ []) }
         ensures cause { CountsFaults 0 0 (is_failed result) }
     {
+        self.asked.add(name.as_bytes());
         let content = self.files.find(name).unwrap_or(&[]);
         copy_within(content, cap, into)
     }
@@ -69,35 +83,9 @@ impl Sink for SureSink {
 
     ghost written = { λ _. None };
 
+    ghost handed = { λ _. None };
+
     fn write_all(&mut self, _piece: &[u8]) -> Result<(), Failed> {
-        Ok(())
-    }
-}
-
-#[cfg(test)]
-mod tests {
-    use super::*;
-    use std::test::Fail;
-
-    #[test]
-    fn never_fails(rt: HostRuntime) -> Result<(), Fail> {
-        let mut files = Files::empty(rt.alloc());
-        files.add("base", b"abc")?;
-        let mut shelf = SureShelf::new(files);
-        let mut into = Vec::from_slice(rt.alloc(), b"old")?;
-        for (name, cap, answer, bytes) in [
-            ("base", 3, Ok(()), "abc"),
-            ("base", 2, Err(ShelfFault::Longer), ""),
-            ("other", 0, Ok(()), ""),
-        ] {
-            assert_eq!(rt;
-                shelf.read_whole(name, cap, &mut into),
-                answer,
-                "{name} within {cap}"
-            );
-            assert_eq!(rt; into.as_slice(), bytes.as_bytes(), "{name} within {cap}");
-        }
-        assert_eq!(rt; SureSink::new().write_all(b"abc"), Ok(()));
         Ok(())
     }
 }

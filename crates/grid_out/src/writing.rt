@@ -1,8 +1,8 @@
 //! The trait by which text is written.
 
-ghost use Rattle.std.specs.Prelude.{ℕ, List, Option, OnOk, OnErr, is_err};
+ghost use Rattle.std.specs.Prelude.{ℕ, List, [], ◌∷◌, Option, OnOk, OnErr, is_err};
 ghost use Rattle.grid_out.specs.Faults.{CountsFaults};
-ghost use Rattle.grid_out.specs.Sink.{Gains, GainsPrefix};
+ghost use Rattle.grid_out.specs.Sink.{Gains, GainsPrefix, Hands};
 
 use crate::failure::Failed;
 
@@ -14,9 +14,13 @@ pub trait Sink {
     // The bytes written so far, where the sink tells them.
     ghost written: { Self → Option (List ℕ) };
 
+    // The pieces that were handed to it so far, also those that it refused, where it tells them.
+    ghost handed: { Self → Option (List (List ℕ)) };
+
     /// Writes the piece at the end. After `Failed` any front part of the piece may be written.
     fn write_all(&mut self, piece: &[u8]) -> Result<(), Failed>
         ensures ok { OnOk result (Gains (written self.old) (written self.new) piece.now) }
         ensures failed { OnErr result (GainsPrefix (written self.old) (written self.new) piece.now) }
+        ensures hands { Hands (handed self.old) (handed self.new) (piece.now ∷ []) }
         ensures cause { CountsFaults (faults self.old) (faults self.new) (is_err result) };
 }

@@ -1,1 +1,8 @@
-pub mod MemberLemmas
+pub mod LineTerms
+pub mod MemberLists
+pub mod OneSorted
+pub mod OneStar
+pub mod Passes
+pub mod SideLists
+pub mod SortedAlike
+pub mod SpokeLists

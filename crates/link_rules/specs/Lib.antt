@@ -1,2 +1,3 @@
+pub mod Inputs
 pub mod Map
-pub mod Order
+pub mod Parts

@@ -1,74 +1,98 @@
-//! The stars of equipment.
+//! The stars of equipment and of items.
 
-ghost use Rattle.std.specs.Prelude.{◌≡◌, [], ◌∷◌, map, option_map, IfOk};
+ghost use Rattle.std.specs.Prelude.{◌≡◌, option_map, unwrap_or, IfOk};
+ghost use Rattle.cim_model.specs.Live as live;
 ghost use Rattle.cim_model.specs.Model.{is_of};
-ghost use Rattle.cim_model.specs.Network.{terminals_by_side};
+ghost use Rattle.cim_model.specs.Network.{class_in};
+ghost use Rattle.cim_model.specs.Stands.{Stands};
 ghost use Rattle.cim_model.specs.Values.{as_id};
 ghost use Rattle.cim_words.specs.Groups as groups;
-ghost use Rattle.link_rules.specs.Map as spec;
+ghost use Rattle.cim_words.specs.declared.class.Class.TheVariants as class;
+ghost use Rattle.link_rules.specs.Inputs.{IsPass, inputs};
+ghost use Rattle.link_rules.specs.Map.{IsStarAt};
+ghost use Rattle.link_rules.specs.Parts.{class_pass, item_pass, switch_open};
+ghost use Rattle.room_words.specs.Items.{item_class};
+ghost use Rattle.room_words.specs.Overlay.{item_or};
 
 use crate::line::line_of;
-use crate::term::term_of;
+use crate::spokes::spokes_of;
 use cim_records::Index;
-use cim_words::{Class, Id, Listed, NoMemory};
-use graph_pages::{Pass, Spoke, SpokePhases, Spokes, Star};
-use room_words::{Anchor, Overlay};
+use cim_words::{Class, Id, NoMemory};
+use graph_pages::{Pass, Star};
+use room_words::{Overlay, TempItem};
 use std::alloc::Global;
 
-/// The star of equipment, none of what is no equipment.
+/// The star of equipment or an item; none of what is neither. The items of the overlay are gone through for it.
 pub fn star_of(
     alloc: Global,
     index: &Index,
     overlay: &Overlay,
     id: Id,
 ) -> Result<Option<Star>, NoMemory>
-    requires no_items { overlay.now.items ≡ [] }
-    requires no_positions { overlay.now.positions ≡ [] }
-    ensures { IfOk result (spec.IsStarAt index.now id.number) }
+    requires { Stands index.now overlay.now }
+    ensures { IfOk result (IsStarAt index.now overlay.now id.number) }
 {
-    if !index.is_equipment(id) {
+    if !is_live(index, overlay, id) {
         return Ok(None);
     }
     Ok(Some(Star {
         id,
-        class: index.class_of(id).unwrap_or(Class::Other),
-        on: index.segment_of(id),
-        spokes: spokes_of(alloc, index, id)?,
-        pass: pass_of(alloc, index, id)?,
+        class: class_of(index, overlay, id),
+        on: stands_on(index, overlay, id),
+        spokes: spokes_of(alloc, index, overlay, id)?,
+        pass: pass_of(alloc, index, overlay, id)?,
     }))
 }
 
-/// The terminals of equipment with their nodes and phases.
-fn spokes_of(alloc: Global, index: &Index, id: Id) -> Result<Spokes, NoMemory>
-    ensures { IfOk result (λ spokes. spokes ≡ map (spec.spoke index.now id.number) (terminals_by_side index.now id.number)) }
+/// Whether the identifier is that of equipment or of an item.
+fn is_live(index: &Index, overlay: &Overlay, id: Id) -> bool
+    ensures { result ≡ live.is_live index.now overlay.now id.number }
 {
-    let spokes = index
-        .terminals_of(id)
-        .iter()
-        .map(|terminal| spoke_of(index, id, *terminal))
-        .collect(alloc)?;
-    Ok(Listed::of(spokes))
+    overlay.item(id).is_some() || index.is_equipment(id)
 }
 
-/// A terminal with its node and its phases.
-fn spoke_of(index: &Index, owner: Id, terminal: Id) -> Spoke
-    ensures { result ≡ spec.spoke index.now owner.number terminal.number }
+/// The class of equipment or of an item.
+fn class_of(index: &Index, overlay: &Overlay, id: Id) -> Class
+    ensures { result ≡ item_or overlay.now id.number item_class (unwrap_or (class_in index.now id.number) class.Other) }
 {
-    Spoke {
-        term: term_of(owner, terminal),
-        at: index.node_of(terminal).map(Anchor::Node),
-        phases: SpokePhases::Own(index.phases_of(terminal)),
+    match overlay.item(id) {
+        Some(item) => item.class(),
+        None => index.class_of(id).unwrap_or(Class::Other),
     }
 }
 
-/// How current passes between the terminals of equipment: along the line of a segment, and else by its class.
-fn pass_of(alloc: Global, index: &Index, id: Id) -> Result<Pass, NoMemory>
-    ensures { IfOk result (spec.IsPass index.now id.number) }
+/// The segment on which a cut or a clamp stands.
+fn stands_on(index: &Index, overlay: &Overlay, id: Id) -> Option<Id>
+    ensures { result ≡ option_map as_id (live.stands_on index.now overlay.now id.number) }
 {
-    if is_segment(index, id) {
-        return line_of(alloc, index, id);
+    match overlay.item(id) {
+        Some(item) => item.segment(),
+        None => index.segment_of(id),
     }
-    Ok(class_pass(index, id))
+}
+
+/// How current passes between the terminals of equipment or an item.
+fn pass_of(alloc: Global, index: &Index, overlay: &Overlay, id: Id) -> Result<Pass, NoMemory>
+    requires { Stands index.now overlay.now }
+    ensures { IfOk result (IsPass (inputs index.now overlay.now id.number)) }
+{
+    match overlay.item(id) {
+        Some(item) => Ok(item_pass(item)),
+        None if is_segment(index, id) => line_of(alloc, index, overlay, id),
+        None => Ok(class_pass(index, overlay, id)),
+    }
+}
+
+/// How current passes between the terminals of an item: a cut and a jumper are switches.
+fn item_pass(item: &TempItem) -> Pass
+    ensures { result ≡ item_pass item.now }
+{
+    match *item {
+        TempItem::Cut { is_open, .. } | TempItem::Jumper { is_open, .. } => Pass::Switch {
+            is_open,
+        },
+        TempItem::Clamp { .. } | TempItem::Ground { .. } => Pass::Nothing,
+    }
 }
 
 /// Whether the identifier is that of a line segment.
@@ -82,13 +106,13 @@ fn is_segment(index: &Index, id: Id) -> bool
 }
 
 /// How current passes between the terminals of equipment that is no segment.
-fn class_pass(index: &Index, id: Id) -> Pass
-    ensures { result ≡ spec.class_pass index.now id.number }
+fn class_pass(index: &Index, overlay: &Overlay, id: Id) -> Pass
+    ensures { result ≡ class_pass index.now overlay.now id.number }
 {
     let class = index.class_of(id).unwrap_or(Class::Other);
     if class.is_switch() {
         Pass::Switch {
-            is_open: index.open_of(id),
+            is_open: is_open(index, overlay, id),
         }
     } else if class.is_passing() {
         Pass::Same
@@ -97,4 +121,11 @@ fn class_pass(index: &Index, id: Id) -> Pass
     } else {
         Pass::Nothing
     }
+}
+
+/// Whether a switch of the model is open: by the position in force, else as the model states.
+fn is_open(index: &Index, overlay: &Overlay, switch: Id) -> bool
+    ensures { result ≡ switch_open index.now overlay.now switch.number }
+{
+    overlay.position(switch).unwrap_or(index.open_of(switch))
 }

@@ -1,9 +1,11 @@
 -- What the laws of the crates below give, under one name for each.
 use Rattle.std.proofs.Common.{◌≡◌, ◌↔◌, ℕ, List, Contains}
-use Rattle.cim_model.specs.Links.{IsReached}
+use Rattle.cim_model.specs.Links.{network}
+use Rattle.cim_model.specs.Reach.{IsReached}
 use Rattle.cim_model.specs.Trace.{IsTrace, Row}
 use Rattle.cim_words.specs.declared.phases.PhaseSet.{PhaseSet}
 use Rattle.cim_words.specs.declared.statement.Statement.{Statement}
+use Rattle.room_words.specs.Overlay.{no_overlay}
 use Rattle.nt_text.specs.Document.{IsBadDocument, IsDocument}
 use Rattle.nt_text.specs.declared.refusal.LineRefusal.{LineRefusal}
 use Rattle.statement_set.specs.Set.{IsOrdered}
@@ -15,4 +17,4 @@ pub record KeepLaws : Type 0 where
       → (n ≡ m) × (why ≡ other) × (s ≡ t)
   pub either : (bytes : List ℕ) (s t : List Statement) (n : ℕ) (why : LineRefusal) → IsDocument bytes s → IsBadDocument bytes n why t → ⊥
   pub set : (these those : List Statement) → IsOrdered these → IsOrdered those → ((s : Statement) → Contains these s ↔ Contains those s) → these ≡ those
-  pub trace : (m : List Statement) (x : ℕ) (phases : PhaseSet) (a b : List Row) → IsTrace (IsReached m x phases) a → IsTrace (IsReached m x phases) b → a ≡ b
+  pub trace : (m : List Statement) (x : ℕ) (phases : PhaseSet) (a b : List Row) → IsTrace (IsReached (network m no_overlay) x phases) a → IsTrace (IsReached (network m no_overlay) x phases) b → a ≡ b

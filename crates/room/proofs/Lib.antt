@@ -1,4 +1,5 @@
 pub mod AnswerLemmas
+pub mod ArgLemmas
 pub mod LawsBelow
 pub mod OneAnswer
 pub mod OneBase

@@ -1,5 +1,5 @@
 -- The words and what the shelf tells have one answer.
-use Rattle.std.proofs.Common.{◌≡◌, ℕ, ◌⊎◌, inl, inr, List, [], ◌∷◌, length, Some, IsTrue, true, false, codes, refl, sym, ap, subst, ◌∙◌, ◌==◌}
+use Rattle.std.proofs.Common.{◌≡◌, ℕ, ◌⊎◌, inl, inr, List, [], ◌∷◌, length, Option, Some, IfSome, IsTrue, true, false, codes, refl, sym, ap, subst, ◌∙◌, ◌==◌}
 use Rattle.std.proofs.lemmas.Option.{same_Some}
 use Rattle.cim_words.specs.IdText.{plain_number}
 use Rattle.cim_words.specs.Phases.{phase_text}
@@ -9,8 +9,7 @@ use Rattle.cim_words.specs.declared.statement.Statement.{Statement}
 use Rattle.cim_words.proofs.PhaseTexts.{phase_text-injective}
 use Rattle.room.specs.Base.{IsBase, RefusesBase}
 use Rattle.room.specs.Command.{IsCommand, IsCheckCommand, IsTraceCommand}
-use Rattle.cim_model.specs.Links.{IsReached}
-use Rattle.room.specs.Run.{Answers, Asks, IsNoCommand, RefusesTask, Tells, is_answer}
+use Rattle.room.specs.Run.{Answers, Asks, HasAnswer, HasNoAnswer, HasNoBase, IsNoCommand, RefusesTask, Tells, TellsBase, is_answer}
 use Rattle.room.specs.Status.{status_line}
 use Rattle.room.specs.TraceText.{trace_text}
 use Rattle.room.specs.declared.status.Status.{Status}
@@ -148,41 +147,67 @@ record IsUsage (words : List (List ℕ)) (s : Status) (x : List ℕ) : Type 0 wh
   usage : s ≡ status.Usage
   line : x ≡ status_line status.Usage
 
-record IsOutcome (content : List ℕ → List ℕ) (words : List (List ℕ)) (s : Status) (x : List ℕ) : Type 0 where
+record IsOutcome (told : List ℕ → Option (List ℕ)) (words : List (List ℕ)) (s : Status) (x : List ℕ) : Type 0 where
   asks : Asks words
-  outcome : Outcome (content asks.name) asks.asked s x
+  bytes : List ℕ
+  tells : told asks.name ≡ Some bytes
+  outcome : Outcome bytes asks.asked s x
 
-abbrev Found : (List ℕ → List ℕ) → List (List ℕ) → Status → List ℕ → Type 0
-Found content words s x = IsUsage words s x ⊎ IsOutcome content words s x
+abbrev Found : (List ℕ → Option (List ℕ)) → List (List ℕ) → Status → List ℕ → Type 0
+Found told words s x = IsUsage words s x ⊎ IsOutcome told words s x
 
-found : (content : List ℕ → List ℕ) (words : List (List ℕ)) (s : Status) (x : List ℕ) → IsTrue (is_answer s)
-    → Answers (λ name. Some (content name)) words s x → Found content words s x
-found content words status.Ok x is a = inr (record { asks = a.0.asks; outcome = inl (record { set = a.0.set; base = a.0.of_base; tells = a.1; well = refl }) })
-found content words status.Usage x is a = inl (record { none = a.0; usage = refl; line = a.1 })
-found content words status.Limit x is a = inr (record { asks = a.0.0; outcome = inr (inl (record { refuses = a.0.1; line = a.1 })) })
-found content words (status.Document line why) x is a = inr (record { asks = a.0.0; outcome = inr (inl (record { refuses = a.0.1; line = a.1 })) })
-found content words (status.Profile rule subject) x is a = inr (record { asks = a.0.0; outcome = inr (inl (record { refuses = a.0.1; line = a.1 })) })
-found content words status.Asked x is a =
-    inr (record { asks = a.0.0.asks; outcome = inr (inr (record { set = a.0.0.set; base = a.0.0.of_base; refuses = a.0.1; line = a.1 })) })
-found content words status.ReadFault x is a = let no : false ≡ true = is in absurd cc
-found content words status.WriteFault x is a = let no : false ≡ true = is in absurd cc
-found content words status.NoMemory x is a = let no : false ≡ true = is in absurd cc
+-- what holds of what is told
+of_told : (P : List ℕ → Type 0) (told : Option (List ℕ)) (bytes : List ℕ) → told ≡ Some bytes → IfSome told P → P bytes
+of_told P told bytes is holds = subst (λ o. IfSome o P) is holds
+
+told_text : (told : List ℕ → Option (List ℕ)) (words : List (List ℕ)) (x : List ℕ) → TellsBase told words → HasAnswer told words x → IsOutcome told words status.Ok x
+told_text told words x tells (reads, text) =
+    let (bytes, is) = tells reads.asks in
+    let base = of_told (λ b. IsBase b reads.set) (told reads.asks.name) bytes is reads.of_base in
+    record { asks = reads.asks; bytes = bytes; tells = is; outcome = inl (record { set = reads.set; base = base; tells = text; well = refl }) }
+
+told_refusal : (told : List ℕ → Option (List ℕ)) (words : List (List ℕ)) (s : Status) (x : List ℕ) → TellsBase told words → HasNoBase told words s → x ≡ status_line s
+    → IsOutcome told words s x
+told_refusal told words s x tells (asks, refuses) line =
+    let (bytes, is) = tells asks in
+    let refused = of_told (λ b. RefusesBase b s) (told asks.name) bytes is refuses in
+    record { asks = asks; bytes = bytes; tells = is; outcome = inr (inl (record { refuses = refused; line = line })) }
+
+told_nothing : (told : List ℕ → Option (List ℕ)) (words : List (List ℕ)) (s : Status) (x : List ℕ) → TellsBase told words → HasNoAnswer told words s → x ≡ status_line s
+    → IsOutcome told words s x
+told_nothing told words s x tells (reads, refuses) line =
+    let (bytes, is) = tells reads.asks in
+    let base = of_told (λ b. IsBase b reads.set) (told reads.asks.name) bytes is reads.of_base in
+    record { asks = reads.asks; bytes = bytes; tells = is; outcome = inr (inr (record { set = reads.set; base = base; refuses = refuses; line = line })) }
+
+found : (told : List ℕ → Option (List ℕ)) (words : List (List ℕ)) (s : Status) (x : List ℕ) → TellsBase told words → IsTrue (is_answer s)
+    → Answers told words s x → Found told words s x
+found told words status.Ok x tells is a = inr (told_text told words x tells a)
+found told words status.Usage x tells is a = inl (record { none = a.0; usage = refl; line = a.1 })
+found told words status.Limit x tells is a = inr (told_refusal told words status.Limit x tells a.0 a.1)
+found told words (status.Document line why) x tells is a = inr (told_refusal told words (status.Document line why) x tells a.0 a.1)
+found told words (status.Profile rule subject) x tells is a = inr (told_refusal told words (status.Profile rule subject) x tells a.0 a.1)
+found told words status.Asked x tells is a = inr (told_nothing told words status.Asked x tells a.0 a.1)
+found told words status.ReadFault x tells is a = let no : false ≡ true = is in absurd cc
+found told words status.WriteFault x tells is a = let no : false ≡ true = is in absurd cc
+found told words status.NoMemory x tells is a = let no : false ≡ true = is in absurd cc
 
 no_command : (words : List (List ℕ)) → IsNoCommand words → Asks words → ⊥
 no_command words none asks = none asks.name asks.asked asks.command
 
-two_found : KeepLaws → (content : List ℕ → List ℕ) (words : List (List ℕ)) (s t : Status) (x y : List ℕ) → IsTrue (is_answer s) → IsTrue (is_answer t)
-    → Found content words s x → Found content words t y → (s ≡ t) × (x ≡ y)
-two_found laws content words s t x y is is' (inl a) (inl b) = (a.usage ∙ sym b.usage, a.line ∙ sym b.line)
-two_found laws content words s t x y is is' (inl a) (inr b) = absurd (no_command words a.none b.asks)
-two_found laws content words s t x y is is' (inr a) (inl b) = absurd (no_command words b.none a.asks)
-two_found laws content words s t x y is is' (inr a) (inr b) =
+two_found : KeepLaws → (told : List ℕ → Option (List ℕ)) (words : List (List ℕ)) (s t : Status) (x y : List ℕ) → IsTrue (is_answer s) → IsTrue (is_answer t)
+    → Found told words s x → Found told words t y → (s ≡ t) × (x ≡ y)
+two_found laws told words s t x y is is' (inl a) (inl b) = (a.usage ∙ sym b.usage, a.line ∙ sym b.line)
+two_found laws told words s t x y is is' (inl a) (inr b) = absurd (no_command words a.none b.asks)
+two_found laws told words s t x y is is' (inr a) (inl b) = absurd (no_command words b.none a.asks)
+two_found laws told words s t x y is is' (inr a) (inr b) =
     let same = one_command words a.asks.name b.asks.name a.asks.asked b.asks.asked a.asks.command b.asks.command in
-    let P : List ℕ → Type 0 = λ name. Outcome (content name) a.asks.asked s x in
-    let Q : Task → Type 0 = λ asked. Outcome (content b.asks.name) asked s x in
-    one_outcome laws (content b.asks.name) b.asks.asked s t x y is is' (subst Q same.1 (subst P same.0 a.outcome)) b.outcome
+    let bytes = same_Some a.bytes b.bytes (sym a.tells ∙ ap told same.0 ∙ b.tells) in
+    let P : List ℕ → Type 0 = λ bytes. Outcome bytes a.asks.asked s x in
+    let Q : Task → Type 0 = λ asked. Outcome b.bytes asked s x in
+    one_outcome laws b.bytes b.asks.asked s t x y is is' (subst Q same.1 (subst P bytes a.outcome)) b.outcome
 
 -- what the words ask for, and what the shelf tells of it, have one status and one text
-pub one_answer : KeepLaws → (content : List ℕ → List ℕ) (words : List (List ℕ)) (a b : Status) (x y : List ℕ) → IsTrue (is_answer a) → IsTrue (is_answer b)
-    → Answers (λ name. Some (content name)) words a x → Answers (λ name. Some (content name)) words b y → (a ≡ b) × (x ≡ y)
-one_answer laws content words a b x y is is' p q = two_found laws content words a b x y is is' (found content words a x is p) (found content words b y is' q)
+pub one_answer : KeepLaws → (told : List ℕ → Option (List ℕ)) (words : List (List ℕ)) (a b : Status) (x y : List ℕ) → TellsBase told words → IsTrue (is_answer a) → IsTrue (is_answer b)
+    → Answers told words a x → Answers told words b y → (a ≡ b) × (x ≡ y)
+one_answer laws told words a b x y tells is is' p q = two_found laws told words a b x y is is' (found told words a x tells is p) (found told words b y tells is' q)

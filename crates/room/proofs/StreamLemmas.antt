@@ -1,7 +1,8 @@
 -- From single reads and writes of a stream to all that went through it.
-use Rattle.std.proofs.Common.{◌≡◌, ℕ, ◌+◌, ◌-◌, ◌<◌, ◌≤◌, List, [], ◌++◌, length, take, drop, Option, Some, None, IfSome, Result, Ok, arith, refl, sym, ap, subst, ◌∙◌, append_assoc, append-nil, take-append-drop}
-use Rattle.std.specs.Io.KnownBytes.{Appends, Consumes, IsAtEnd, Keeps, ReadConsumes}
+use Rattle.std.proofs.Common.{◌≡◌, ℕ, ◌+◌, ◌-◌, ◌<◌, ◌≤◌, List, [], ◌++◌, length, take, drop, Option, Some, None, IfSome, Result, Ok, Err, arith, refl, sym, ap, subst, ◌∙◌, append_assoc, append-nil, take-append-drop}
+use Rattle.std.specs.Io.KnownBytes.{Appends, Consumes, IsAtEnd, Keeps, ReadConsumes, WriteAppends}
 use Rattle.std.proofs.lemmas.List.{length-append, length-take-le, take_rest}
+use Rattle.std.proofs.Math.Seq.{take-append-add, take-append_seam}
 
 -- what a writer holds after no write, after one more, and after one that failed
 pub none_written : (o : Option (List ℕ)) → Appends o o []
@@ -19,6 +20,19 @@ still_written None p q done before same = tt
 still_written (Some xs) None q done before same = absurd before
 still_written (Some xs) (Some ys) None done before same = absurd same
 still_written (Some xs) (Some ys) (Some zs) done before same = same ∙ before
+
+-- after a last write, which may have failed, a front of all was written
+pub front_so_far : (o p : Option (List ℕ)) (done rest all : List ℕ) → all ≡ done ++ rest → Appends o p done → (n : ℕ) × Appends o p (take n all)
+front_so_far o p done rest all split before =
+    let front : take (length done) all ≡ done = ap (take (length done)) split ∙ take-append_seam done rest in
+    (length done, subst (Appends o p) (sym front) before)
+
+pub front_after : {E : Type 0} (o p q : Option (List ℕ)) (r : Result ℕ E) (done rest all : List ℕ) → all ≡ done ++ rest → Appends o p done → WriteAppends p q r rest
+    → (n : ℕ) × Appends o q (take n all)
+front_after o p q (Ok n) done rest all split before wrote =
+    let front : take (length done + n) all ≡ done ++ take n rest = ap (take (length done + n)) split ∙ take-append-add done rest n in
+    (length done + n, subst (Appends o q) (sym front) (more_written o p q done (take n rest) before wrote))
+front_after o p q (Err e) done rest all split before wrote = front_so_far o q done rest all split (still_written o p q done before wrote)
 
 -- a front of what was left moves to what is done
 pub front_moves : (all done rest : List ℕ) (n : ℕ) → all ≡ done ++ rest → all ≡ (done ++ take n rest) ++ take (length rest - n) (drop n rest)

@@ -3,18 +3,18 @@ use Rattle.std.proofs.Common.{◌≡◌, ◌↔◌, ℕ, List, true, false, Opti
 use Rattle.cim_words.specs.declared.phases.Phase.{Phase}
 use Rattle.cim_words.specs.declared.phases.PhaseSet.{PhaseSet}
 use Rattle.cim_words.specs.declared.statement.Statement.{Statement}
-use Rattle.cim_model.specs.Links as network
 use Rattle.cim_model.specs.Network.{is_equipment}
+use Rattle.cim_model.specs.Reach.{IsReached, Wiring}
 use Rattle.cim_model.specs.Trace.{IsTrace, Row}
 use Rattle.graph_pages.specs.Graph.{GraphView, star_of}
-use Rattle.graph_pages.specs.Walks as graph
 use Rattle.graph_pages.specs.declared.star.Star.{Star}
 use Rattle.link_rules.specs.Map.{IsMap, IsStarAt}
+use Rattle.room_words.specs.Overlay.{no_overlay}
 
--- a trace of the graph is one of the network, where both reach the same
-pub network_trace : (m : List Statement) (g : GraphView) (x : ℕ) (asked : PhaseSet) (rows : List Row) → ((y : ℕ) (p : Phase) → graph.IsReached g x asked y p ↔ network.IsReached m x asked y p)
-    → IsTrace (graph.IsReached g x asked) rows → IsTrace (network.IsReached m x asked) rows
-network_trace m g x asked rows same trace = record {
+-- a trace of one wiring is one of another, where both reach the same
+pub other_trace : (v w : Wiring) (x : ℕ) (asked : PhaseSet) (rows : List Row) → ((y : ℕ) (p : Phase) → IsReached v x asked y p ↔ IsReached w x asked y p)
+    → IsTrace (IsReached v x asked) rows → IsTrace (IsReached w x asked) rows
+other_trace v w x asked rows same trace = record {
   ascending = trace.ascending;
   in_some_phase = trace.in_some_phase;
   complete = λ y p reached. trace.complete y p ((same y p).1 reached);
@@ -22,16 +22,16 @@ network_trace m g x asked rows same trace = record {
 }
 
 -- the graph has a star of just the equipment
-starless : (m : List Statement) (x : ℕ) (o : Option Star) → IsStarAt m x o → o ≡ None → is_equipment m x ≡ false
+starless : (m : List Statement) (x : ℕ) (o : Option Star) → IsStarAt m no_overlay x o → o ≡ None → is_equipment m x ≡ false
 starless m x None none is = none
 starless m x (Some found) some is = absurd cc
 
-pub no_star : (m : List Statement) (g : GraphView) (x : ℕ) → IsMap m g → star_of g x ≡ None → is_equipment m x ≡ false
+pub no_star : (m : List Statement) (g : GraphView) (x : ℕ) → IsMap m no_overlay g → star_of g x ≡ None → is_equipment m x ≡ false
 no_star m g x entries none = starless m x (star_of g x) (entries.stars x) none
 
-starred : (m : List Statement) (x : ℕ) (o : Option Star) → IsStarAt m x o → (o ≡ None → ⊥) → is_equipment m x ≡ true
+starred : (m : List Statement) (x : ℕ) (o : Option Star) → IsStarAt m no_overlay x o → (o ≡ None → ⊥) → is_equipment m x ≡ true
 starred m x None none some = absurd (some refl)
 starred m x (Some found) here some = here.0
 
-pub a_star : (m : List Statement) (g : GraphView) (x : ℕ) → IsMap m g → (star_of g x ≡ None → ⊥) → is_equipment m x ≡ true
+pub a_star : (m : List Statement) (g : GraphView) (x : ℕ) → IsMap m no_overlay g → (star_of g x ≡ None → ⊥) → is_equipment m x ≡ true
 a_star m g x entries some = starred m x (star_of g x) (entries.stars x) some

@@ -1,7 +1,8 @@
 -- What the program answers: a status and a text, by the words of its command and by what the shelf tells.
-use Rattle.std.specs.Prelude.{ℕ, ◌≡◌, ◌⊎◌, List, [], length, Option, IfSome, Bool, true, false, IsTrue, Result, Ok, Err}
-use Rattle.cim_model.specs.Links.{IsReached}
+use Rattle.std.specs.Prelude.{ℕ, ◌≡◌, ◌⊎◌, List, [], ◌∷◌, length, Option, Some, IfSome, Bool, true, false, IsTrue, Result, Ok, Err}
+use Rattle.cim_model.specs.Links.{network}
 use Rattle.cim_model.specs.Network.{is_equipment}
+use Rattle.cim_model.specs.Reach.{IsReached}
 use Rattle.cim_model.specs.Trace.{IsTrace, Row}
 use Rattle.cim_words.specs.declared.phases.PhaseSet.{PhaseSet}
 use Rattle.cim_words.specs.declared.statement.Statement.{Statement}
@@ -13,6 +14,7 @@ use Rattle.nt_text.specs.declared.refusal.NtFault.{NtFault}
 use Rattle.nt_text.specs.declared.refusal.NtFault.TheVariants as nt_fault
 use Rattle.statement_set.specs.declared.refusal.SetRefusal.{SetRefusal}
 use Rattle.statement_set.specs.declared.refusal.SetRefusal.TheVariants as set_refusal
+use Rattle.room_words.specs.Overlay.{no_overlay}
 use Rattle.room.specs.declared.status.Status.{Status}
 use Rattle.room.specs.declared.status.Status.TheVariants as status
 use Rattle.room.specs.declared.task.Task.{Task}
@@ -33,17 +35,25 @@ pub record Asks (words : List (List ℕ)) : Type 0 where
   pub asked : Task
   pub command : IsCommand words name asked
 
+-- the shelf tells what the base contains that is asked for, where one is
+abbrev pub TellsBase : (List ℕ → Option (List ℕ)) → List (List ℕ) → Type 0
+TellsBase told words = (asks : Asks words) → (bytes : List ℕ) × (told asks.name ≡ Some bytes)
+
+-- the names of the files that the words ask for, in their order: the base's, where they are a command
+abbrev pub AreNames : List (List ℕ) → List (List ℕ) → Type 0
+AreNames words names = (IsNoCommand words × (names ≡ [])) ⊎ ((asks : Asks words) × (names ≡ asks.name ∷ []))
+
 -- the base that was asked for was read: it is what the shelf tells of its name, where the shelf tells it
 pub record Reads (told : List ℕ → Option (List ℕ)) (words : List (List ℕ)) : Type 0 where
   pub asks : Asks words
   pub set : List Statement
   pub of_base : IfSome (told asks.name) (λ bytes. IsBase bytes set)
 
--- the text is the trace of a network from a piece of its equipment
+-- the text is the trace of an untouched network, without cuts, clamps, jumpers and grounds of operators, from a piece of its equipment
 pub record IsTraced (set : List Statement) (source : ℕ) (phases : PhaseSet) (text : List ℕ) : Type 0 where
   pub equipment : IsTrue (is_equipment set source)
   pub rows : List Row
-  pub trace : IsTrace (IsReached set source phases) rows
+  pub trace : IsTrace (IsReached (network set no_overlay) source phases) rows
   pub is_text : text ≡ trace_text rows
 
 -- what a task tells of a set of statements: a check tells how many they are
@@ -105,6 +115,11 @@ Writes status.Ok old new before now text = Gains old new text × (now ≡ before
 Writes status.WriteFault old new before now text = GainsFront old new before now text
 Writes status.NoMemory old new before now text = Gains old new [] × (now ≡ before)
 Writes _ old new before now text = (Gains old new text × (now ≡ before)) ⊎ GainsFront old new before now text
+
+-- the pieces in which a text is handed to the output: all of it at once, and nothing where no text is written
+abbrev pub pieces_of : Status → List ℕ → List (List ℕ)
+pieces_of status.NoMemory text = []
+pieces_of _ text = text ∷ []
 
 -- a read that failed is told as such, and nothing else is
 abbrev pub is_read_fault : Status → Bool

@@ -2,8 +2,9 @@
 
 ghost use Rattle.std.specs.Prelude.{◌≡◌, ◌≤◌, ℕ, List, length, map, string_bytes, IfOk, IfErr, IsTrue};
 ghost use Rattle.grid_out.specs.Faults.{CountsFaults};
+ghost use Rattle.grid_out.specs.Shelf.{AsksFor};
 ghost use Rattle.room.specs.Base.{base_limit};
-ghost use Rattle.room.specs.Run.{Answers, IsTold, IsUntold, is_failed_read, is_refusal};
+ghost use Rattle.room.specs.Run.{Answers, AreNames, IsTold, IsUntold, is_failed_read, is_refusal};
 ghost use Rattle.room.specs.Status.{status_line};
 
 use crate::base::read_base;
@@ -28,6 +29,7 @@ pub(crate) fn answer<F: Shelf>(
     ensures refusal { IfErr result (λ status. Answers (F.content shelf.old) (map string_bytes words.now) status (status_line status)) }
     ensures refuses { IfErr result (λ status. IsTrue (is_refusal status)) }
     ensures cause { CountsFaults (F.faults shelf.old) (F.faults shelf.new) (is_failed_read result) }
+    ensures asks { (names : List (List ℕ)) × AreNames (map string_bytes words.now) names × AsksFor (F.asked shelf.old) (F.asked shelf.new) names }
     ensures kept { (name : List ℕ) → F.content shelf.new name ≡ F.content shelf.old name }
 {
     let Some((name, task)) = command(words) else {

@@ -1,6 +1,9 @@
-//! The real files, as a shelf. What they hold is the outside's: this shelf tells no content.
+//! The real files, as a shelf. What they hold is the outside's: this shelf tells no content. What it does with a file that was opened
+//! is said over any reader that tells its bytes.
 
-ghost use Rattle.std.specs.Prelude.{◌≡◌, ◌≤◌, ◌<◌, [], length, None, Err, IfErr, IfOk, IfSome, OnOk, IsErrOf};
+ghost use Rattle.std.specs.Prelude.{◌≡◌, ◌≤◌, ◌<◌, [], length, None, Err, IfErr, IfSome, IsOkAnd, OnErr, OnOk, IsErrOf};
+ghost use Rattle.grid_out.specs.Faults.{CountsFaults};
+ghost use Rattle.grid_out.specs.Shelf.{is_failed};
 
 use grid_out::{Shelf, ShelfFault};
 use std::fs;
@@ -25,41 +28,53 @@ impl<'r, R: Files> Shelf for FileShelf<'r, R> {
 
     ghost content = { λ _ _. None };
 
+    ghost asked = { λ _. None };
+
     fn read_whole(&mut self, name: &str, cap: u64, into: &mut Vec<u8>) -> Result<(), ShelfFault> {
-        into.clear();
-        let read = read_file(self.rt, name, cap, into);
-        if read.is_err() {
-            into.clear();
-        }
-        if let Err(ShelfFault::Failed) = read {
-            self.faults = self.faults.saturating_add(1);
-        }
-        read
+        read_opened(fs::open(self.rt, name), cap, into, &mut self.faults)
     }
 }
 
 /// How many bytes are asked of a file at once.
 const PIECE: usize = 65_536;
 
-/// Reads the content of a file. After an `Err` a front of it may have been appended.
-fn read_file<R: Files>(rt: &R, name: &str, cap: u64, into: &mut Vec<u8>) -> Result<(), ShelfFault>
-    requires { into.old.items ≡ [] }
-    ensures { OnOk result (length into.new.items ≤ cap) }
+/// Reads the whole of what was opened into `into`, whose old content is dropped first, and counts a fault.
+fn read_opened<F: Read + Drop>(
+    opened: io::Result<F>,
+    cap: u64,
+    into: &mut Vec<u8>,
+    faults: &mut u64,
+) -> Result<(), ShelfFault>
+    ensures ok { OnOk result (IsOkAnd opened (λ file. IfSome (F.remaining file) (λ bytes. into.new.items ≡ bytes))) }
+    ensures within_cap { OnOk result (IsOkAnd opened (λ file. IfSome (F.remaining file) (λ bytes. length bytes ≤ cap))) }
+    ensures read_within { OnOk result (length into.new.items ≤ cap) }
+    ensures longer { IsErrOf result ShelfFault.Longer → IsOkAnd opened (λ file. IfSome (F.remaining file) (λ bytes. cap < length bytes)) }
+    ensures not_opened { IfErr opened (λ _. result ≡ Err ShelfFault.Failed) }
+    ensures err { OnErr result (into.new.items ≡ []) }
+    ensures cause { CountsFaults faults.old faults.new (is_failed result) }
 {
-    read_opened(fs::open(rt, name), cap, into)
+    into.clear();
+    let read = read_all(opened, cap, into);
+    if read.is_err() {
+        into.clear();
+    }
+    if let Err(ShelfFault::Failed) = read {
+        *faults = faults.saturating_add(1);
+    }
+    read
 }
 
 /// Reads what was opened, if it was. After an `Err` a front of it may have been appended.
-fn read_opened<F: Read + Drop>(
+fn read_all<F: Read + Drop>(
     opened: io::Result<F>,
     cap: u64,
     into: &mut Vec<u8>,
 ) -> Result<(), ShelfFault>
     requires { into.old.items ≡ [] }
     ensures within { OnOk result (length into.new.items ≤ cap) }
-    ensures failed { IfErr opened (λ _. result ≡ Err ShelfFault.Failed) }
-    ensures whole { OnOk result (IfOk opened (λ file. IfSome (F.remaining file) (λ bytes. into.new.items ≡ bytes))) }
-    ensures longer { IsErrOf result ShelfFault.Longer → IfOk opened (λ file. IfSome (F.remaining file) (λ bytes. cap < length bytes)) }
+    ensures not_opened { IfErr opened (λ _. result ≡ Err ShelfFault.Failed) }
+    ensures whole { OnOk result (IsOkAnd opened (λ file. IfSome (F.remaining file) (λ bytes. into.new.items ≡ bytes))) }
+    ensures longer { IsErrOf result ShelfFault.Longer → IsOkAnd opened (λ file. IfSome (F.remaining file) (λ bytes. cap < length bytes)) }
 {
     let Ok(mut file) = opened else {
         return Err(ShelfFault::Failed);
@@ -90,4 +105,31 @@ fn read_rest<R: Read>(from: &mut R, cap: u64, into: &mut Vec<u8>) -> Result<(), 
         left = after;
     }
     Err(ShelfFault::Failed)
+}
+
+#[cfg(test)]
+mod tests {
+    use super::*;
+    use std::test::Fail;
+
+    fn missing() -> io::Result<&'static [u8]> {
+        Err(io::Error::from(io::ErrorKind::NotFound))
+    }
+
+    #[test]
+    fn reads_what_was_opened(rt: HostRuntime) -> Result<(), Fail> {
+        let mut into = Vec::from_slice(rt.alloc(), b"old")?;
+        let mut faults = 0;
+        for (opened, cap, answer, bytes, count) in [
+            (Ok(b"abc".as_slice()), 3, Ok(()), "abc", 0),
+            (Ok(b"abc".as_slice()), 2, Err(ShelfFault::Longer), "", 0),
+            (missing(), 3, Err(ShelfFault::Failed), "", 1),
+            (Ok(b"".as_slice()), 0, Ok(()), "", 1),
+        ] {
+            assert_eq!(rt; read_opened(opened, cap, &mut into, &mut faults), answer);
+            assert_eq!(rt; into.as_slice(), bytes.as_bytes());
+            assert_eq!(rt; faults, count);
+        }
+        Ok(())
+    }
 }

@@ -1,7 +1,9 @@
-//! The standard output, as a sink. What reaches it is the outside's: this sink tells no bytes.
+//! The standard output, as a sink. What reaches it is the outside's: this sink tells no bytes. What it does with an output is said
+//! over any writer that tells its bytes.
 
-ghost use Rattle.std.specs.Prelude.{None, OnOk};
+ghost use Rattle.std.specs.Prelude.{ℕ, take, None, OnErr, OnOk, is_err};
 ghost use Rattle.std.specs.Io.KnownBytes.{Appends};
+ghost use Rattle.grid_out.specs.Faults.{CountsFaults};
 
 use grid_out::{Failed, Sink};
 use std::io::{self, Write};
@@ -24,18 +26,30 @@ impl<'r, R: Print> Sink for OutSink<'r, R> {
 
     ghost written = { λ _. None };
 
+    ghost handed = { λ _. None };
+
     fn write_all(&mut self, piece: &[u8]) -> Result<(), Failed> {
-        let wrote = write_whole(&mut io::writer(self.rt), piece);
-        if wrote.is_err() {
-            self.faults = self.faults.saturating_add(1);
-        }
-        wrote
+        write_piece(&mut io::writer(self.rt), piece, &mut self.faults)
     }
 }
 
-/// Writes the whole piece, or fails.
+/// Writes the whole piece, and counts a fault.
+fn write_piece<W: Write>(out: &mut W, piece: &[u8], faults: &mut u64) -> Result<(), Failed>
+    ensures ok { OnOk result (Appends (W.contents out.old) (W.contents out.new) piece.now) }
+    ensures failed { OnErr result ((n : ℕ) × Appends (W.contents out.old) (W.contents out.new) (take n piece.now)) }
+    ensures cause { CountsFaults faults.old faults.new (is_err result) }
+{
+    let wrote = write_whole(out, piece);
+    if wrote.is_err() {
+        *faults = faults.saturating_add(1);
+    }
+    wrote
+}
+
+/// Writes the whole piece, or fails after a front of it.
 fn write_whole<W: Write>(out: &mut W, piece: &[u8]) -> Result<(), Failed>
-    ensures { OnOk result (Appends (W.contents out.old) (W.contents out.new) piece.now) }
+    ensures whole { OnOk result (Appends (W.contents out.old) (W.contents out.new) piece.now) }
+    ensures front { OnErr result ((n : ℕ) × Appends (W.contents out.old) (W.contents out.new) (take n piece.now)) }
 {
     let mut rest = piece;
     for _ in 0..u64::MAX {
@@ -50,4 +64,26 @@ fn write_whole<W: Write>(out: &mut W, piece: &[u8]) -> Result<(), Failed>
         }
     }
     Err(Failed)
+}
+
+#[cfg(test)]
+mod tests {
+    use super::*;
+    use std::test::Fail;
+
+    #[test]
+    fn writes_up_to_the_room(rt: HostRuntime) -> Result<(), Fail> {
+        let mut room = [0; 5];
+        let mut out = room.as_mut_slice();
+        let mut faults = 0;
+        for (piece, answer, count) in [("abc", Ok(()), 0), ("def", Err(Failed), 1)] {
+            assert_eq!(rt;
+                write_piece(&mut out, piece.as_bytes(), &mut faults),
+                answer
+            );
+            assert_eq!(rt; faults, count);
+        }
+        assert_eq!(rt; &room, b"abcde");
+        Ok(())
+    }
 }

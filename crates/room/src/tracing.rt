@@ -4,9 +4,11 @@ ghost use Rattle.std.specs.Prelude.{◌≡◌, IfErr, IfOk};
 ghost use Rattle.cim_model.specs.Profile.{IsFaultless};
 ghost use Rattle.link_rules.specs.Map.{IsMap};
 ghost use Rattle.room.specs.Run.{IsTraced, RefusesTrace};
+ghost use Rattle.room_words.specs.Overlay.{no_overlay};
 
 use crate::status::Status;
 use crate::trace_text::write_trace;
+use cim_model::the_empty_overlay_stands;
 use cim_records::Index;
 use cim_words::{Id, NoMemory, PhaseSet};
 use feeder_trace::{NoSuch, Tracer};
@@ -33,6 +35,7 @@ pub(crate) fn trace_of(
     let index = Index::build(alloc, set)?;
     let graph = graph_of::<Brand>(alloc, &index, Blank::new(1))?;
     let mut tracer = Tracer::reserve(alloc, &graph)?;
+    the_empty_overlay_stands();
     walks_are_reach();
     match tracer.trace(&graph, source, phases) {
         Ok(()) => Ok(write_trace(alloc, &tracer)?),
@@ -45,8 +48,10 @@ fn graph_of<L: Ledger>(alloc: Global, index: &Index, blank: Blank) -> Result<Gra
     requires name { blank.name ≡ L.name }
     requires parts { blank.parts ≡ L.parts }
     requires some { blank.parts ≡ 1 }
-    ensures { IfOk result (IsMap index.now) }
+    ensures { IfOk result (IsMap index.now no_overlay) }
 {
+    the_empty_overlay_stands();
     let mut steps = Steps::<L>::of(blank);
-    rebuild(alloc, index, &Overlay::empty(alloc), &mut steps)
+    let overlay = Overlay::empty(alloc);
+    rebuild(alloc, index, &overlay, &mut steps)
 }

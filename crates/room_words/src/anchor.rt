@@ -1,4 +1,9 @@
-//! Where the terminal of a temporary item is anchored.
+//! The places at which terminals stand.
+
+ghost use Rattle.std.specs.Prelude.{◌≡◌, ◌↔◌, IsTrue};
+ghost use Rattle.std.specs.Ordering.{is_eq};
+ghost use Rattle.room_words.specs.Terms.{same_anchor};
+ghost use Rattle.room_words.specs.declared.anchor.Anchor.{Anchor};
 
 use cim_words::Id;
 
@@ -10,3 +15,10 @@ pub enum Anchor {
     /// Side 1 or 2 of the temporary item with this identifier.
     Side(Id, u8),
 }
+
+/// Two places are equal where their kinds, identifiers and sides are, and so they are for the derived order.
+pub fn places_are_compared()
+    ensures derived { (a b : Anchor) → ⟦<Anchor as PartialEq>⟧.eq a b ≡ same_anchor a b }
+    ensures ordered { (a b : Anchor) → is_eq (⟦<Anchor as Ord>⟧.cmp a b) ≡ same_anchor a b }
+    ensures equal { (a b : Anchor) → IsTrue (same_anchor a b) ↔ (a ≡ b) }
+{}

@@ -1,8 +1,9 @@
 //! What stands on the permanent network for a time.
 
-ghost use Rattle.std.specs.Prelude.{◌≡◌, [], IfOk};
+ghost use Rattle.std.specs.Prelude.{◌≡◌, IfOk, option_copied};
+ghost use Rattle.room_words.specs.Overlay.{item_of, no_overlay, position_of};
 
-use crate::items::Items;
+use crate::items::{Items, TempItem};
 use cim_words::{Id, Listed, NoMemory};
 use std::alloc::Global;
 
@@ -30,13 +31,33 @@ pub struct Overlay {
 impl Overlay {
     /// The overlay of an untouched network: no item and no position in force.
     pub fn empty(alloc: Global) -> Overlay
-        ensures items { result.items ≡ [] }
-        ensures positions { result.positions ≡ [] }
+        ensures { result ≡ no_overlay }
     {
         Overlay {
             items: Listed::empty(alloc),
             positions: Listed::empty(alloc),
         }
+    }
+
+    /// The item with an identifier.
+    pub fn item(&self, id: Id) -> Option<&TempItem>
+        ensures { option_copied result ≡ item_of self.now id.number }
+    {
+        self.items
+            .as_slice()
+            .iter()
+            .find(|item| item.id().number == id.number)
+    }
+
+    /// Whether a switch is open by the position in force for it, if there is one.
+    pub fn position(&self, switch: Id) -> Option<bool>
+        ensures { result ≡ position_of self.now switch.number }
+    {
+        self.positions
+            .as_slice()
+            .iter()
+            .find(|position| position.switch.number == switch.number)
+            .map(|position| position.is_open)
     }
 
     /// The same overlay once more.
@@ -55,46 +76,4 @@ fn copied<T: Copy>(alloc: Global, list: &Listed<T>) -> Result<Listed<T>, NoMemor
     ensures { IfOk result (λ copy. copy ≡ list.now) }
 {
     Ok(Listed::of(Vec::from_slice(alloc, list.as_slice())?))
-}
-
-#[cfg(test)]
-mod tests {
-    use super::*;
-    use crate::anchor::Anchor;
-    use crate::items::TempItem;
-    use cim_words::{Length, PhaseSet};
-    use std::test::Fail;
-
-    #[test]
-    fn copies_overlays(rt: HostRuntime) -> Result<(), Fail> {
-        let alloc = rt.alloc();
-        let items = [
-            TempItem::Cut {
-                id: Id::of(1),
-                segment: Id::of(2),
-                length: Length { mm: 3 },
-                is_open: true,
-            },
-            TempItem::Ground {
-                id: Id::of(4),
-                at: Anchor::Side(Id::of(1), 2),
-                phases: PhaseSet::ABC,
-            },
-        ];
-        let positions = [Position {
-            switch: Id::of(5),
-            is_open: false,
-        }];
-        let mut overlay = Overlay::empty(alloc);
-        for item in items {
-            assert!(rt; overlay.items.push(item).is_ok());
-        }
-        for position in positions {
-            assert!(rt; overlay.positions.push(position).is_ok());
-        }
-        let copy = overlay.copy(alloc)?;
-        assert!(rt; copy.items.as_slice() == items.as_slice());
-        assert!(rt; copy.positions.as_slice() == positions.as_slice());
-        Ok(())
-    }
 }

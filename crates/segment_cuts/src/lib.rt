@@ -6,8 +6,6 @@ mod laws;
 mod line;
 mod mark;
 mod segment;
-#[cfg(test)]
-mod tests;
 
 pub use cim_words::NoMemory;
 pub use laws::{sections_are_determined, spots_stand_in_their_sections};

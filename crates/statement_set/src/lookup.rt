@@ -2,15 +2,13 @@
 
 ghost use Rattle.std.specs.Prelude.{◌≡◌, ◌↔◌, ◌==◌, IsTrue, Contains};
 ghost use Rattle.std.specs.List.{filter};
-ghost use Rattle.std.specs.Slice.Iter.{iter_rest};
 ghost use Rattle.cim_words.specs.declared.statement.Statement.{Statement};
 ghost use Rattle.statement_set.specs.Set.{IsOrdered};
 
+use crate::about::About;
 use crate::set::StatementSet;
+use crate::subjects::Subjects;
 use cim_words::{Id, Statement, statements_are_ordered};
-
-/// The statements about one subject, in order.
-pub type About<'a> = std::slice::Iter<'a, Statement>;
 
 impl StatementSet {
     /// Whether the set holds a statement.
@@ -20,8 +18,31 @@ impl StatementSet {
         is_among(statement, self.statements())
     }
 
+    /// Goes over the statements, in order and each once.
+    pub fn iter(&self) -> About<'_>
+        ensures list { result ≡ self.now }
+        ensures ordered { IsOrdered self.now }
+    {
+        About::of(self.statements())
+    }
+
+    /// Goes over the subjects, in order, each with the statements about it.
+    pub fn subjects(&self) -> Subjects<'_>
+        ensures list { result ≡ self.now }
+        ensures ordered { IsOrdered self.now }
+    {
+        Subjects::of(self.statements())
+    }
+
+    /// Goes over the statements about a subject, in order.
+    pub fn about(&self, subject: Id) -> About<'_>
+        ensures { result ≡ filter (λ (s : Statement). s.subject.number == subject.number) self.now }
+    {
+        About::of(self.statements_about(subject))
+    }
+
     /// The statements about a subject, in order.
-    pub fn statements_about(&self, subject: Id) -> &[Statement]
+    fn statements_about(&self, subject: Id) -> &[Statement]
         ensures { result.now ≡ filter (λ (s : Statement). s.subject.number == subject.number) self.now }
     {
         let statements = self.statements();
@@ -29,13 +50,6 @@ impl StatementSet {
         let rest = &statements[before..];
         let within = rest.partition_point(|s| s.subject.number <= subject.number);
         &rest[..within]
-    }
-
-    /// Goes over the statements about a subject, in order.
-    pub fn about(&self, subject: Id) -> About<'_>
-        ensures { iter_rest result ≡ filter (λ (s : Statement). s.subject.number == subject.number) self.now }
-    {
-        self.statements_about(subject).iter()
     }
 }
 

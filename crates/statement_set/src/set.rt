@@ -68,7 +68,7 @@ impl StatementSet {
     }
 
     /// The statements, in order and each once.
-    pub fn statements(&self) -> &[Statement]
+    pub(crate) fn statements(&self) -> &[Statement]
         ensures list { result.now ≡ self.now }
         ensures ordered { IsOrdered self.now }
         ensures small { length self.now ≤ most_statements }
@@ -78,7 +78,8 @@ impl StatementSet {
 
     /// How many statements there are.
     pub fn len(&self) -> usize
-        ensures { result ≡ length self.now }
+        ensures count { result ≡ length self.now }
+        ensures small { result ≤ most_statements }
     {
         self.statements().len()
     }

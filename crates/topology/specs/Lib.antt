@@ -1,2 +1,2 @@
-pub mod Places
-pub mod Stars
+pub mod Held
+pub mod Listed

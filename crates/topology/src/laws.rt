@@ -1,39 +1,32 @@
 //! The law that ties the graph to the network.
 
-ghost use Rattle.std.specs.Prelude.{◌≡◌, ◌↔◌, ℕ, List, Some};
-ghost use Rattle.cim_model.specs.Links as network;
-ghost use Rattle.cim_model.specs.Network.{owner_of};
+ghost use Rattle.std.specs.Prelude.{◌↔◌, ℕ, List};
+ghost use Rattle.cim_model.specs.Links.{network};
 ghost use Rattle.cim_model.specs.Profile.{IsFaultless};
-ghost use Rattle.cim_model.specs.Reach.{Reaches};
+ghost use Rattle.cim_model.specs.Reach.{IsPointReached, IsReached};
+ghost use Rattle.cim_model.specs.Stands.{Stands};
 ghost use Rattle.cim_words.specs.declared.phases.Phase.{Phase};
 ghost use Rattle.cim_words.specs.declared.phases.PhaseSet.{PhaseSet};
 ghost use Rattle.cim_words.specs.declared.statement.Statement.{Statement};
 ghost use Rattle.graph_pages.specs.Graph.{GraphView};
-ghost use Rattle.graph_pages.specs.Walks as graph;
-ghost use Rattle.graph_pages.specs.declared.term.Term.{Term};
-ghost use Rattle.link_rules.specs.Map.{IsMap, term};
+ghost use Rattle.graph_pages.specs.Walks.{wiring};
+ghost use Rattle.link_rules.specs.Map.{IsMap};
+ghost use Rattle.room_words.specs.declared.overlay.Overlay.{Overlay};
+ghost use Rattle.room_words.specs.declared.term.Point.{Point};
 
-use cim_model::{
-    marks_stand_on_segments, subjects_are_listed_once, subjects_have_one_class,
-    terminals_belong_where_listed, terminals_join_equipment_to_nodes,
-};
+use cim_model::what_is_live;
+use link_rules::lines_list_terminals_at_spots;
+use room_words::terms_are_compared;
 
-/// On a model without fault the walks over its graph and the reach through its network hold of the same points, and the same
-/// equipment is reached in the same phases.
+/// On a model without fault and an overlay that stands, the walks over their graph and the reach through their network hold of the same
+/// points, and the same equipment and items are reached in the same phases.
 pub fn walks_are_reach()
-    ensures real { (m : List Statement) (g : GraphView) → IsFaultless m → IsMap m g
-        → (x : ℕ) (asked : PhaseSet) (u : Term) (p : Phase) → graph.Walks g x asked (record { term = u; phase = p })
-        → (t : ℕ) × (owner_of m t ≡ Some u.owner.number) × (u ≡ term u.owner.number t) }
-    ensures points { (m : List Statement) (g : GraphView) → IsFaultless m → IsMap m g
-        → (x : ℕ) (asked : PhaseSet) (y t : ℕ) (p : Phase) → owner_of m t ≡ Some y
-        → graph.Walks g x asked (record { term = term y t; phase = p })
-        ↔ Reaches (network.Linked m) (network.IsStart m x asked) (record { terminal = t; phase = p }) }
-    ensures equipment { (m : List Statement) (g : GraphView) → IsFaultless m → IsMap m g
-        → (x : ℕ) (asked : PhaseSet) (y : ℕ) (p : Phase) → graph.IsReached g x asked y p ↔ network.IsReached m x asked y p }
+    ensures points { (m : List Statement) (o : Overlay) (g : GraphView) → IsFaultless m → Stands m o → IsMap m o g
+        → (x : ℕ) (asked : PhaseSet) (a : Point) → IsPointReached (wiring g) x asked a ↔ IsPointReached (network m o) x asked a }
+    ensures equipment { (m : List Statement) (o : Overlay) (g : GraphView) → IsFaultless m → Stands m o → IsMap m o g
+        → (x : ℕ) (asked : PhaseSet) (y : ℕ) (p : Phase) → IsReached (wiring g) x asked y p ↔ IsReached (network m o) x asked y p }
 {
-    subjects_are_listed_once();
-    subjects_have_one_class();
-    terminals_belong_where_listed();
-    terminals_join_equipment_to_nodes();
-    marks_stand_on_segments();
+    what_is_live();
+    lines_list_terminals_at_spots();
+    terms_are_compared();
 }

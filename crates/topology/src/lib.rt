@@ -1,7 +1,8 @@
-//! The graph of a network from nothing, and the law that its walks are the network's reach.
+//! The graph of a live network from nothing, and the law that its walks are the network's reach.
 #![tactic(auto)]
 
 mod laws;
+mod listing;
 mod making;
 
 pub use cim_words::NoMemory;

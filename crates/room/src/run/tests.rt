@@ -1,5 +1,6 @@
 //! Runs over content and an output in memory.
 
+mod classes;
 mod ieee_13_node;
 mod networks;
 mod plain;

@@ -1,5 +1,5 @@
 use Rattle.std.proofs.Common.{◌≡◌, find, drop}
-use Rattle.graph_pages.specs.Graph.{same_term}
+use Rattle.room_words.specs.Terms.{same_term}
 use Rattle.graph_pages.specs.declared.star.Spoke.{Spoke}
 use Rattle.feeder_trace.proofs.lines.spoke_in.Given as goal
 

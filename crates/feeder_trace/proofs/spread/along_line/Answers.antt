@@ -1,6 +1,6 @@
 use Rattle.std.proofs.Common.{List, Some, refl, sym, ◌∙◌, subst, Contains}
 use Rattle.std.proofs.lemmas.List.{take_all}
-use Rattle.graph_pages.specs.declared.term.Term.{Term}
+use Rattle.room_words.specs.declared.term.Term.{Term}
 use Rattle.feeder_trace.specs.Lines.{shown_line}
 use Rattle.feeder_trace.specs.Search.{MarksAll}
 use Rattle.feeder_trace.specs.Spread.{AmongMembers, InSections}
@@ -13,7 +13,7 @@ use Rattle.feeder_trace.proofs.spread.along_line.Goals as goal
 pub loop-index-preserved-then-not-contains : goal.loop-index-preserved-then-not-contains
 loop-index-preserved-then-not-contains c = (
   sections_skip c.as_slice-section-items.result.now c.loop-index.index c.section-item.result c.section-item.result c.args.term c.meet-phases.result c.args.search.now c.loop-index.search c.loop-index-test.true c.section-item.is
-      (λ has. absent_by _ c.terms_are_compared.ensures c.as_slice.result.now c.args.term (sym c.contains.ensures.value ∙ c.if-not-contains.true) (subst (λ (ts : List Term). Contains ts c.args.term) (sym c.as_slice.ensures) has))
+      (λ has. absent_by _ c.terms_are_compared.ensures.derived c.as_slice.result.now c.args.term (sym c.contains.ensures.value ∙ c.if-not-contains.true) (subst (λ (ts : List Term). Contains ts c.args.term) (sym c.as_slice.ensures) has))
       c.loop-index.invariant.0,
   c.loop-index.invariant.1,
 )
@@ -22,7 +22,7 @@ pub loop-index-preserved-then-is_empty : goal.loop-index-preserved-then-is_empty
 loop-index-preserved-then-is_empty c =
     section_more c.args.graph.now c.in-Some.line.segment (shown_line c.in-Some.line) c.as_slice-section-items.result.now c.loop-index.index c.section-item.result c.args.term c.meet-phases.result c.go_over-left.result c.loop-index.hubs c.go_over-left.new.self c.args.search.now c.loop-index.search c.loop-index.search
     c.in-Some.ensures.segment c.as_slice-section-items.ensures c.loop-index-test.true c.section-item.is
-    (subst (λ (ts : List Term). Contains ts c.args.term) c.as_slice.ensures (contains_by _ c.terms_are_compared.ensures c.as_slice.result.now c.args.term (sym c.contains.ensures.value ∙ c.if-not-contains.false)))
+    (subst (λ (ts : List Term). Contains ts c.args.term) c.as_slice.ensures (contains_by _ c.terms_are_compared.ensures.derived c.as_slice.result.now c.args.term (sym c.contains.ensures.value ∙ c.if-not-contains.false)))
     c.loop-index.invariant.0 c.loop-index.invariant.1 c.go_over-left.ensures
     (hub_nothing c.args.graph.now (Section c.in-Some.line.segment c.loop-index.index) c.go_over-left.result c.loop-index.search (c.if-is_empty.ensures.phases.0 refl))
 
@@ -30,7 +30,7 @@ pub loop-index-preserved : goal.loop-index-preserved
 loop-index-preserved c =
     section_more c.args.graph.now c.in-Some.line.segment (shown_line c.in-Some.line) c.as_slice-section-items.result.now c.loop-index.index c.section-item.result c.args.term c.meet-phases.result c.go_over-left.result c.loop-index.hubs c.go_over-left.new.self c.args.search.now c.loop-index.search c.reach_members.new.search
     c.in-Some.ensures.segment c.as_slice-section-items.ensures c.loop-index-test.true c.section-item.is
-    (subst (λ (ts : List Term). Contains ts c.args.term) c.as_slice.ensures (contains_by _ c.terms_are_compared.ensures c.as_slice.result.now c.args.term (sym c.contains.ensures.value ∙ c.if-not-contains.false)))
+    (subst (λ (ts : List Term). Contains ts c.args.term) c.as_slice.ensures (contains_by _ c.terms_are_compared.ensures.derived c.as_slice.result.now c.args.term (sym c.contains.ensures.value ∙ c.if-not-contains.false)))
     c.loop-index.invariant.0 c.loop-index.invariant.1 c.go_over-left.ensures
     (section_members c.args.graph.now c.in-Some.line.segment (shown_line c.in-Some.line) c.loop-index.index c.section-item.result c.in-Some.ensures.segment
     (section_at c.in-Some.line.sections.now c.as_slice-section-items.result.now c.loop-index.index c.section-item.result c.as_slice-section-items.ensures c.loop-index-test.true c.section-item.is)

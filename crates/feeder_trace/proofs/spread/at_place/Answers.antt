@@ -1,5 +1,5 @@
 use Rattle.std.proofs.Common.{List, Some, sym, ◌∙◌, subst, refl}
-use Rattle.graph_pages.specs.declared.term.Term.{Term}
+use Rattle.room_words.specs.declared.term.Term.{Term}
 use Rattle.feeder_trace.specs.Search.{MarksAll}
 use Rattle.feeder_trace.specs.Spread.{AmongMembers}
 use Rattle.feeder_trace.specs.declared.hub.Hub.TheVariants.{Place}

@@ -1,6 +1,6 @@
 use Rattle.std.proofs.Common.{List, refl, subst}
 use Rattle.std.proofs.lemmas.List.{take_all}
-use Rattle.graph_pages.specs.declared.term.Term.{Term}
+use Rattle.room_words.specs.declared.term.Term.{Term}
 use Rattle.feeder_trace.specs.Search.{MarksAll}
 use Rattle.feeder_trace.specs.Spread.{AmongMembers}
 use Rattle.feeder_trace.proofs.SpreadLemmas.{members_none, members_more}

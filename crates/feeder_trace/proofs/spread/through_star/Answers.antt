@@ -13,7 +13,7 @@ returns-in-Same c =
 pub returns-then-not-is_open : goal.returns-then-not-is_open
 returns-then-not-is_open c =
     closed_marks c.args.star.now c.args.term c.args.phases c.in-Switch.is_open c.args.search.now c.reach_spokes-then-not-is_open.new.search c.in-Switch.is c.if-not-is_open.true
-    (subst (λ (spokes : List Spoke). MarksAll (AmongSpokes spokes None c.args.phases) c.args.search.now c.reach_spokes-then-not-is_open.new.search) c.as_slice-spokes.ensures c.reach_spokes-then-not-is_open.ensures)
+    (subst (λ (spokes : List Spoke). MarksAll (AmongSpokes spokes (Some c.args.term) c.args.phases) c.args.search.now c.reach_spokes-then-not-is_open.new.search) c.as_slice-spokes.ensures c.reach_spokes-then-not-is_open.ensures)
 
 pub returns-in-Transformer : goal.returns-in-Transformer
 returns-in-Transformer c =

@@ -3,8 +3,8 @@ use Rattle.std.proofs.lemmas.Grind.{common_steps}
 use Rattle.std.proofs.lemmas.Iterator.Adapters.{YieldsList-from_vec}
 use Rattle.std.proofs.lemmas.Iterator.Consumers.{YieldsList-end}
 use Rattle.room_words.specs.declared.anchor.Anchor.{Anchor}
-use Rattle.graph_pages.specs.Graph.{same_anchor}
-use Rattle.graph_pages.specs.declared.term.Term.{Term}
+use Rattle.room_words.specs.Terms.{same_anchor}
+use Rattle.room_words.specs.declared.term.Term.{Term}
 use Rattle.graph_pages.proofs.BuildLemmas.{Gives, gives_more, members_given, all_taken}
 use Rattle.graph_pages.proofs.build.members_by_place.Goals as goal
 
@@ -15,7 +15,7 @@ pub loop-place-preserved : goal.loop-place-preserved
 loop-place-preserved g c = (
   tt,
   tt,
-  gives_more _ _ c.places_are_told_apart.ensures c.loop-place.map.entries c.put.new.map.entries c.loop-place.yielded c.in-Some.place c.in-Some.members c.in_ok-put.ensures.updates.0 c.loop-place.invariant.2,
+  gives_more _ _ c.places_are_compared.ensures.ordered c.loop-place.map.entries c.put.new.map.entries c.loop-place.yielded c.in-Some.place c.in-Some.members c.in_ok-put.ensures.updates.0 c.loop-place.invariant.2,
   grind (arith, common_steps),
 )
 

@@ -1,5 +1,5 @@
 use Rattle.std.proofs.Common.{◌≡◌, ◌+◌, length}
-use Rattle.graph_pages.specs.Graph.{same_anchor}
+use Rattle.room_words.specs.Terms.{same_anchor}
 use Rattle.graph_pages.proofs.BuildLemmas.{Gives}
 use Rattle.graph_pages.proofs.build.members_by_place.Given as goal
 

@@ -1,4 +1,4 @@
-use Rattle.std.proofs.Common.{sym, ap, subst, map, string_bytes, Err}
+use Rattle.std.proofs.Common.{◌∷◌, [], inr, refl, sym, ap, subst, map, string_bytes, Err}
 use Rattle.room.specs.Run.{Asks, Answers}
 use Rattle.room.specs.Status.{status_line}
 use Rattle.room.specs.declared.status.Status.{Status}
@@ -20,3 +20,14 @@ returns-in-Err-clause-refusal g c =
     let asks : Asks (map string_bytes c.args.words.now) = record { name = c.in-Some.name.now; asked = c.in-Some.task; command = c.in-Some.ensures.found } in
     let A : Status → Type 0 = λ s. Answers (g.F.Shelf.content c.args.shelf.now) (map string_bytes c.args.words.now) s (status_line s) in
     subst A (sym c.from.ensures) (unread c.in-Err.fault (g.F.Shelf.content c.args.shelf.now) (map string_bytes c.args.words.now) asks (λ is. c.in-Err.ensures.longer (ap Err is)))
+
+-- the base was asked for, and nothing else
+pub returns-in-Ok-clause-asks : goal.returns-in-Ok-clause-asks
+returns-in-Ok-clause-asks g c =
+    let asks : Asks (map string_bytes c.args.words.now) = record { name = c.in-Some.name.now; asked = c.in-Some.task; command = c.in-Some.ensures.found } in
+    (c.in-Some.name.now ∷ [], inr (asks, refl), c.read_whole.ensures.asks)
+
+pub returns-in-Err-clause-asks : goal.returns-in-Err-clause-asks
+returns-in-Err-clause-asks g c =
+    let asks : Asks (map string_bytes c.args.words.now) = record { name = c.in-Some.name.now; asked = c.in-Some.task; command = c.in-Some.ensures.found } in
+    (c.in-Some.name.now ∷ [], inr (asks, refl), c.read_whole.ensures.asks)

@@ -1,3 +1,4 @@
+use Rattle.room_words.specs.Overlay.{no_overlay}
 use Rattle.room.proofs.LawsBelow.{KeepLaws}
 use Rattle.room.proofs.OneAnswer.{one_answer}
 use Rattle.room.proofs.laws.one_answer.Goals as goal
@@ -9,7 +10,7 @@ laws c = record {
   bad_line = c.documents_have_one_reading.ensures.bad_line;
   either = c.documents_have_one_reading.ensures.either;
   set = c.one_set.ensures;
-  trace = c.one_trace.ensures;
+  trace = λ m x phases. c.one_trace.ensures m no_overlay x phases;
 }
 
 pub returns : goal.returns

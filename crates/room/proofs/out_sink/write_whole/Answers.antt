@@ -1,6 +1,6 @@
 use Rattle.std.proofs.Common.{◌≡◌, [], ◌++◌, rules, take, refl, sym, ap, ◌∙◌, subst, append-nil, drop_of_length-le}
 use Rattle.std.specs.Io.KnownBytes.{Appends}
-use Rattle.room.proofs.StreamLemmas.{front_moves, more_written, none_written, still_written}
+use Rattle.room.proofs.StreamLemmas.{front_after, front_moves, front_so_far, more_written, none_written, still_written}
 use Rattle.room.proofs.out_sink.write_whole.Goals as goal
 
 pub loop-init : goal.loop-init
@@ -17,9 +17,24 @@ loop-preserved-in-Err g c =
     let (done, split, written) = c.loop.invariant in
     (done, split, still_written _ _ _ _ written c.in-Err.ensures.bytes)
 
-pub returns-then-is_empty : goal.returns-then-is_empty
-returns-then-is_empty g c =
+pub returns-then-is_empty-clause-whole : goal.returns-then-is_empty-clause-whole
+returns-then-is_empty-clause-whole g c =
     let (done, split, written) = c.loop.invariant in
     let rest = c.loop.rest.now in
     let empty : rest ≡ [] = drop_of_length-le rest {i = 0} (search rules) in
     subst (Appends _ _) (sym (split ∙ ap (λ l. done ++ l) empty ∙ append-nil done)) written
+
+pub returns-in-Ok-eq0-clause-front : goal.returns-in-Ok-eq0-clause-front
+returns-in-Ok-eq0-clause-front g c =
+    let (done, split, written) = c.loop.invariant in
+    front_after _ _ _ c.write.result done c.loop.rest.now _ split written c.write.ensures.bytes
+
+pub returns-in-Err-2-clause-front : goal.returns-in-Err-2-clause-front
+returns-in-Err-2-clause-front g c =
+    let (done, split, written) = c.loop.invariant in
+    front_after _ _ _ c.write.result done c.loop.rest.now _ split written c.write.ensures.bytes
+
+pub returns-clause-front : goal.returns-clause-front
+returns-clause-front g c =
+    let (done, split, written) = c.loop.invariant in
+    front_so_far _ _ done c.loop.rest.now _ split written

@@ -245,7 +245,11 @@ fn plain_text(
     let Ok(set) = StatementSet::from_list(statements) else {
         return Ok(Vec::new(alloc));
     };
-    text_of(alloc, &plain_rows(alloc, set.statements(), source, phases)?)
+    let mut statements = Vec::new(alloc);
+    for statement in set.iter() {
+        statements.push(statement.copy(alloc)?)?;
+    }
+    text_of(alloc, &plain_rows(alloc, &statements, source, phases)?)
 }
 
 /// Whether the program's trace of the first base with further statements is that of the plain program, from each start.

@@ -1,45 +1,36 @@
-use Rattle.std.proofs.Common.{List}
-use Rattle.cim_model.specs.Profile.{IsFaultless}
-use Rattle.cim_words.specs.declared.statement.Statement.{Statement}
-use Rattle.graph_pages.specs.Graph.{GraphView}
-use Rattle.link_rules.specs.Map.{IsMap}
-use Rattle.topology.proofs.EquipmentReached.{reached_in_graph, reached_in_network}
-use Rattle.topology.proofs.ModelLaws.{KeepsLaws}
-use Rattle.topology.proofs.SpokeLemmas.{IsGraphOf}
-use Rattle.topology.proofs.WalksAreReach.{reached_walked, walked_reached, walked_real}
+use Rattle.cim_model.specs.Links.{network}
+use Rattle.graph_pages.specs.Walks.{wiring}
+use Rattle.topology.proofs.Agreement.{point_reached_too, reached_too}
+use Rattle.topology.proofs.Entries.{IsGraphOf}
+use Rattle.topology.proofs.Follow.{graph_follows, network_follows}
 use Rattle.topology.proofs.laws.walks_are_reach.Goals as goal
 
--- a model without fault keeps the laws that are called here
-keeps_laws : goal.After-marks_stand_on_segments → (m : List Statement) → IsFaultless m → KeepsLaws m
-keeps_laws c m faultless =
-    let subjects = c.subjects_are_listed_once.ensures in
-    let terminals = c.terminals_join_equipment_to_nodes.ensures in
-    let marks = c.marks_stand_on_segments.ensures in
-    record {
-      lists = record { listed = subjects.listed m; once = subjects.once m; classed = subjects.classed m };
-      one_class = λ x test. c.subjects_have_one_class.ensures m x test faultless;
-      sides = λ y t. c.terminals_belong_where_listed.ensures.sides m y t faultless;
-      terminals = λ t. terminals.terminals m t faultless;
-      equipment = λ y t owned. terminals.equipment m y t faultless owned;
-      nodes = λ n t at. terminals.nodes m n t faultless at;
-      segments = λ x y on. marks.segments m x y faultless on;
-      alone = λ x segment. marks.alone m x faultless segment;
-    }
-
-graph_of : goal.After-marks_stand_on_segments → (m : List Statement) (g : GraphView) → IsFaultless m → IsMap m g → IsGraphOf m g
-graph_of c m g faultless map = record { laws = keeps_laws c m faultless; entries = map }
-
-pub returns-clause-real : goal.returns-clause-real
-returns-clause-real c m g faultless map x asked u p = walked_real m g x asked u p (graph_of c m g faultless map)
-
 pub returns-clause-points : goal.returns-clause-points
-returns-clause-points c m g faultless map x asked y t p owned = (
-  walked_reached m g x asked y t p (graph_of c m g faultless map),
-  reached_walked m g x asked y t p (graph_of c m g faultless map) owned,
-)
+returns-clause-points c m o g faultless stands entries x asked a =
+    let of_network : IsGraphOf m o g = record {
+      owners = λ t. c.what_is_live.ensures.owners m o t faultless stands;
+      places = λ place t. c.what_is_live.ensures.places m o place t faultless stands;
+      terminals = λ x t. c.what_is_live.ensures.terminals m o x t;
+      segments = λ x y. c.what_is_live.ensures.segments m o x y faultless stands;
+      lines = λ x. c.what_is_live.ensures.lines m o x faultless stands;
+      marks = λ x id divides. c.what_is_live.ensures.marks m o x id divides faultless stands;
+      apart = c.terms_are_compared.ensures.equal;
+      lists = λ x sections. c.lines_list_terminals_at_spots.ensures m o x sections;
+      entries = entries;
+    } in
+    (point_reached_too (wiring g) (network m o) x asked a (graph_follows m o g of_network), point_reached_too (network m o) (wiring g) x asked a (network_follows m o g of_network))
 
 pub returns-clause-equipment : goal.returns-clause-equipment
-returns-clause-equipment c m g faultless map x asked y p = (
-  reached_in_network m g x asked y p (graph_of c m g faultless map),
-  reached_in_graph m g x asked y p (graph_of c m g faultless map),
-)
+returns-clause-equipment c m o g faultless stands entries x asked y p =
+    let of_network : IsGraphOf m o g = record {
+      owners = λ t. c.what_is_live.ensures.owners m o t faultless stands;
+      places = λ place t. c.what_is_live.ensures.places m o place t faultless stands;
+      terminals = λ x t. c.what_is_live.ensures.terminals m o x t;
+      segments = λ x y. c.what_is_live.ensures.segments m o x y faultless stands;
+      lines = λ x. c.what_is_live.ensures.lines m o x faultless stands;
+      marks = λ x id divides. c.what_is_live.ensures.marks m o x id divides faultless stands;
+      apart = c.terms_are_compared.ensures.equal;
+      lists = λ x sections. c.lines_list_terminals_at_spots.ensures m o x sections;
+      entries = entries;
+    } in
+    (reached_too (wiring g) (network m o) x asked y p (graph_follows m o g of_network), reached_too (network m o) (wiring g) x asked y p (network_follows m o g of_network))

@@ -1,7 +1,7 @@
 use Rattle.std.proofs.Common.{◌≡◌, Some, slice_get, sym, ap, ◌∙◌, subst}
 use Rattle.std.proofs.lemmas.Option.{same_Some}
 use Rattle.cim_words.specs.declared.phases.PhaseSet.{PhaseSet}
-use Rattle.graph_pages.specs.declared.term.Term.{Term}
+use Rattle.room_words.specs.declared.term.Term.{Term}
 use Rattle.feeder_trace.specs.Search.{IsAt}
 use Rattle.feeder_trace.specs.SearchView.{SearchView}
 use Rattle.feeder_trace.proofs.RoomLemmas.{at_from, read_within}

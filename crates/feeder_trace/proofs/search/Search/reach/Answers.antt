@@ -1,6 +1,6 @@
 use Rattle.std.proofs.Common.{List, Contains, sym, subst, arith, refl}
 use Rattle.cim_words.specs.declared.phases.PhaseSet.{PhaseSet}
-use Rattle.graph_pages.specs.declared.term.Term.{Term}
+use Rattle.room_words.specs.declared.term.Term.{Term}
 use Rattle.feeder_trace.specs.Room.{view_of}
 use Rattle.feeder_trace.specs.Search.{SearchView, MarksAll, AtTerm}
 use Rattle.feeder_trace.proofs.MarkLemmas.{marks_nothing, reach_nothing, reach_some}

@@ -1,5 +1,5 @@
 use Rattle.std.proofs.Common.{map, Bor, List, sym, subst}
-use Rattle.std.proofs.lemmas.Iterator.Consumers.{YieldsList-from_rest, YieldsList-end}
+use Rattle.std.proofs.lemmas.Iterator.Consumers.{YieldsList-from_first, YieldsList-end}
 use Rattle.graph_pages.specs.declared.star.Spoke.{Spoke}
 use Rattle.graph_pages.specs.declared.star.Star.{Star}
 use Rattle.feeder_trace.specs.Numbering.{EntersSpokes}
@@ -17,5 +17,5 @@ loop-star-preserved c =
 
 pub returns : goal.returns
 returns c =
-    let t = YieldsList-end (YieldsList-from_rest {shows = λ (star : Bor Star). star.now} c.args.graph.now.stars (cc)) c.loop-star.yielded c.loop-star.star-iterator c.loop-star.yielded_by c.next.result c.next.new.self c.in-None.is c.next.ensures.steps in
-    is_numbered c.args.graph.now c.loop-star.terminals (subst (λ (stars : List Star). EntersStars c.args.graph.now stars c.loop-star.terminals) t.0 c.loop-star.invariant)
+    let t = YieldsList-end (YieldsList-from_first (λ (star : Bor Star). star.now) (λ (rest : List Star). rest) c.stars-star-items.result (cc)) c.loop-star.yielded c.loop-star.star-iterator c.loop-star.yielded_by c.next.result c.next.new.self c.in-None.is c.next.ensures.steps in
+    is_numbered c.args.graph.now c.stars-star-items.result c.loop-star.terminals c.stars-star-items.ensures.same (subst (λ (stars : List Star). EntersStars c.args.graph.now stars c.loop-star.terminals) t.0 c.loop-star.invariant)

@@ -1,7 +1,8 @@
 use Rattle.std.proofs.Common.{◌≡◌, Some, option_copied, sym, ap, ◌∙◌, subst}
+use Rattle.cim_model.specs.Reach.{IsReached}
 use Rattle.cim_model.specs.Trace.{IsTrace}
 use Rattle.graph_pages.specs.Graph.{star_of}
-use Rattle.graph_pages.specs.Walks.{IsReached}
+use Rattle.graph_pages.specs.Walks.{wiring}
 use Rattle.feeder_trace.proofs.TraceLemmas.{own_number, traced}
 use Rattle.feeder_trace.proofs.tracer.Tracer.trace.Goals as goal
 
@@ -13,5 +14,5 @@ walk-requires-clause-star c =
 pub returns-clause-traced : goal.returns-clause-traced
 returns-clause-traced c =
     let at : star_of c.args.graph.now c.args.start.number ≡ Some c.in_ok-star.star.now = sym c.star.ensures ∙ ap option_copied c.in_ok-star.ensures.ok_part in
-    subst (λ x. IsTrace (IsReached c.args.graph.now x c.args.phases) c.merge.new.rows.items) (own_number c.args.graph.now c.args.start.number c.in_ok-star.star.now at)
+    subst (λ x. IsTrace (IsReached (wiring c.args.graph.now) x c.args.phases) c.merge.new.rows.items) (own_number c.args.graph.now c.args.start.number c.in_ok-star.star.now at)
     (traced c.args.graph.now c.in_ok-star.star.now.id.number c.args.phases c.walk.new.search c.gather.new.parts.items c.merge.new.rows.items c.walk.ensures.walked c.gather.ensures.counted c.merge.ensures.rows c.merge.ensures.same)

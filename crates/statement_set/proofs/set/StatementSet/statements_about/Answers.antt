@@ -5,7 +5,7 @@ use Rattle.std.proofs.lemmas.List.{take_rest}
 use Rattle.std.proofs.lemmas.List.Sorted.{IsPartitionPoint-from_clause, IsPartitionedBy-ltb, IsPartitionedBy-leb, IsNonDecreasingBy-drop, IsNonDecreasingBy-take}
 use Rattle.cim_words.specs.declared.statement.Statement.{Statement}
 use Rattle.statement_set.specs.Set.{IsOrdered}
-use Rattle.statement_set.proofs.Subjects.{about_rest, subjects_rise, subject_of}
+use Rattle.statement_set.proofs.OneSubject.{about_rest, subjects_rise, subject_of}
 use Rattle.statement_set.proofs.set.StatementSet.statements_about.Goals as goal
 
 pub returns : goal.returns

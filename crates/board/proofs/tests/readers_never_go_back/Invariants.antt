@@ -1,4 +1,0 @@
-use Rattle.board.proofs.tests.readers_never_go_back.Given as goal
-
-abbrev pub ghosts-run : goal.ghosts-run
-ghosts-run g a = record { board = a.writer.board }

@@ -1,0 +1,6 @@
+use Rattle.std.proofs.Common.{sym, ◌∙◌}
+use Rattle.link_rules.proofs.SideLists.{real_second}
+use Rattle.link_rules.proofs.terms.side_two.Goals as goal
+
+pub returns-in-None : goal.returns-in-None
+returns-in-None c = c.real_two.ensures ∙ real_second c.args.index.now c.args.overlay.now c.args.owner.number (sym c.in-None.ensures)
