@@ -12,7 +12,7 @@ use Rattle.cim_words.specs.Groups.{is_node, is_terminal}
 use Rattle.cim_words.specs.KnownProp.{known_row}
 use Rattle.cim_words.specs.Order.{object_order, prop_order, statement_order}
 use Rattle.cim_words.specs.declared.known_prop.KnownProp.{KnownProp}
-use Rattle.cim_words.specs.declared.known_prop.KnownProp.TheVariants.{K3}
+use Rattle.cim_words.specs.Properties as property
 use Rattle.cim_words.specs.declared.object.Object.{Object}
 use Rattle.cim_words.specs.declared.object.Object.TheVariants as object
 use Rattle.cim_words.specs.declared.prop.Prop.{Prop}
@@ -131,4 +131,4 @@ naming_sorted k x (s ∷ rest) ordered =
     sorted_next s (filter (is_naming k x) rest) (is_naming k x s) (λ is. naming_all k x s rest is ordered.0) (naming_sorted k x rest ordered.1)
 
 pub terminals_ascend : (m : List Statement) (n : ℕ) → IsOrdered m → IsStrictlyIncreasing (terminals_at m n)
-terminals_ascend m n ordered = IsStrictlyIncreasing-filter (is_of m is_terminal) (naming m K3 n) (IsStrictlyIncreasing-from_sorted (naming m K3 n) (naming_sorted K3 n m ordered))
+terminals_ascend m n ordered = IsStrictlyIncreasing-filter (is_of m is_terminal) (naming m property.connectivity_node n) (IsStrictlyIncreasing-from_sorted (naming m property.connectivity_node n) (naming_sorted property.connectivity_node n m ordered))

@@ -4,7 +4,7 @@ use Rattle.std.specs.List.{filter_map, list_any}
 use Rattle.cim_words.specs.Groups.{is_known_class}
 use Rattle.cim_words.specs.declared.class.Class.{Class}
 use Rattle.cim_words.specs.declared.class.Class.TheVariants as class
-use Rattle.cim_words.specs.declared.known_prop.KnownProp.TheVariants.{K1}
+use Rattle.cim_words.specs.Properties as property
 use Rattle.cim_words.specs.declared.object.Object.{Object}
 use Rattle.cim_words.specs.declared.object.Object.TheVariants as object
 use Rattle.cim_words.specs.declared.statement.Statement.{Statement}
@@ -59,7 +59,7 @@ no_class test m x none = rw (filter_none (is_about x) m none) refl
 
 a_class : (test : Class → Bool) (m : List Statement) (x : ℕ) → IsFaultless m → is_subject m x ≡ true → is_of m test x ≡ is_class test (class_in m x)
 a_class test m x faultless subject =
-    by_name test (said m x K1) (is_one_name (said m x K1)) (not (is_empty (terminals_of m x))) refl
+    by_name test (said m x property.rdf_type) (is_one_name (said m x property.rdf_type)) (not (is_empty (terminals_of m x))) refl
     (not_true (breaks_type m x) (λ broken. faultless 1 x (record { subject = subject; broken = broken })))
 
 one_class_at : (test : Class → Bool) (m : List Statement) (x : ℕ) (b : Bool) → is_subject m x ≡ b → IsFaultless m → is_of m test x ≡ is_class test (class_in m x)

@@ -4,7 +4,7 @@ use Rattle.std.specs.List.{filter_map, list_any}
 use Rattle.cim_words.specs.Groups.{is_terminal, is_clamp, is_cut, is_known_class}
 use Rattle.cim_words.specs.declared.class.Class.{Class}
 use Rattle.cim_words.specs.declared.known_prop.KnownProp.{KnownProp}
-use Rattle.cim_words.specs.declared.known_prop.KnownProp.TheVariants.{K1, K2, K9, K11}
+use Rattle.cim_words.specs.Properties as property
 use Rattle.cim_words.specs.declared.object.Object.{Object}
 use Rattle.cim_words.specs.declared.object.Object.TheVariants as object
 use Rattle.cim_words.specs.declared.statement.Statement.{Statement}
@@ -54,7 +54,7 @@ one_name_types (object.Text text ∷ os) h = absurd cc
 pub one_class : (m : List Statement) (x t : ℕ) → IsFaultless m → is_subject m x ≡ true → Among (terminals_of m x) t → (c : Class) × (types m x ≡ c ∷ [])
 one_class m x t faultless subject has =
     let kept : breaks_type m x ≡ false = keeps m 1 x faultless subject in
-    one_name_types (said m x K1) (passes_unless (is_one_name (said m x K1)) _ kept (or_right (is_of m is_known_class x) _ (ap not (among_some (terminals_of m x) t has))))
+    one_name_types (said m x property.rdf_type) (passes_unless (is_one_name (said m x property.rdf_type)) _ kept (or_right (is_of m is_known_class x) _ (ap not (among_some (terminals_of m x) t has))))
 
 -- what a subject says by a property that counts on it is all that it says by it
 only_one : {X : Type 0} (xs : List X) (x : X) → nat_lt 1 (length xs) ≡ false → Among xs x → xs ≡ x ∷ []
@@ -74,10 +74,10 @@ says_one true true c d e f h is = absurd cc
 says_one true false c d e f h is = refl
 says_one false b c d e f h is = absurd cc
 
-pub owner_said : (m : List Statement) (t : ℕ) → IsFaultless m → is_of m is_terminal t ≡ true → is_empty (said m t K2) ≡ false
+pub owner_said : (m : List Statement) (t : ℕ) → IsFaultless m → is_of m is_terminal t ≡ true → is_empty (said m t property.conducting_equipment) ≡ false
 owner_said m t faultless terminal =
     let kept : breaks_owner m t ≡ false = keeps m 3 t faultless (class_subject m is_terminal t terminal) in
-    says_one (is_of m is_terminal t) (is_empty (said m t K2)) (is_of m is_clamp t) (is_empty (said m t K9)) (is_of m is_cut t) (is_empty (said m t K11)) kept terminal
+    says_one (is_of m is_terminal t) (is_empty (said m t property.conducting_equipment)) (is_of m is_clamp t) (is_empty (said m t property.clamp_segment)) (is_of m is_cut t) (is_empty (said m t property.cut_segment)) kept terminal
 
 -- what a reference names is of the right class
 pub target_said : (m : List Statement) (x : ℕ) (k : KnownProp) (o : Object) → IsFaultless m → Among references k → counts m x k ≡ true → Among (said m x k) o → names_target m k o ≡ true

@@ -3,7 +3,7 @@ use Rattle.std.proofs.Common.{◌≡◌, ℕ, inl, inr, List, [], ◌∷◌, Boo
 use Rattle.std.specs.List.{filter_map}
 use Rattle.cim_words.specs.Groups.{is_equipment_class, is_node, is_part, is_terminal}
 use Rattle.cim_words.specs.declared.class.Class.{Class}
-use Rattle.cim_words.specs.declared.known_prop.KnownProp.TheVariants.{K1, K2, K3}
+use Rattle.cim_words.specs.Properties as property
 use Rattle.cim_words.specs.declared.object.Object.{Object}
 use Rattle.cim_words.specs.declared.object.Object.TheVariants as object
 use Rattle.cim_words.specs.declared.statement.Statement.{Statement}
@@ -20,31 +20,31 @@ use Rattle.cim_model.proofs.SaidLemmas.{IsStated, both, naming_says, said_subjec
 -- the terminals of equipment are those that it owns
 pub owned_listed : (m : List Statement) (y t : ℕ) → owner_of m t ≡ Some y → Among (terminals_of m y) t
 owned_listed m y t owned =
-    let stated : IsStated id_said m t K2 y = value_stated id_said m t K2 y owned in
-    among_filter (is_of m is_terminal) (naming m K2 y) t (says_naming m K2 y t stated.object stated.said stated.read) stated.counts
+    let stated : IsStated id_said m t property.conducting_equipment y = value_stated id_said m t property.conducting_equipment y owned in
+    among_filter (is_of m is_terminal) (naming m property.conducting_equipment y) t (says_naming m property.conducting_equipment y t stated.object stated.said stated.read) stated.counts
 
 pub listed_owned : (m : List Statement) (y t : ℕ) → IsFaultless m → Among (terminals_of m y) t → owner_of m t ≡ Some y
 listed_owned m y t faultless listed =
-    let terminal : is_of m is_terminal t ≡ true = filter_passes (is_of m is_terminal) (naming m K2 y) t listed in
-    let names = naming_says m K2 y t (filter_among (is_of m is_terminal) (naming m K2 y) t listed) in
-    value_is id_said m t K2 names.0 y terminal (said_once m t K2 names.0 faultless (inl refl) terminal names.1) names.2
+    let terminal : is_of m is_terminal t ≡ true = filter_passes (is_of m is_terminal) (naming m property.conducting_equipment y) t listed in
+    let names = naming_says m property.conducting_equipment y t (filter_among (is_of m is_terminal) (naming m property.conducting_equipment y) t listed) in
+    value_is id_said m t property.conducting_equipment names.0 y terminal (said_once m t property.conducting_equipment names.0 faultless (inl refl) terminal names.1) names.2
 
 -- what owns a terminal has a type, and so it is equipment and of one class
 typed : (some : Bool) (part : Bool) → (not some && not part) ≡ true → some ≡ false
 typed true part h = absurd cc
 typed false part h = refl
 
-target_subject : (m : List Statement) (o : Object) (y : ℕ) → names_target m K2 o ≡ true → id_said o ≡ Some y → is_subject m y ≡ true
+target_subject : (m : List Statement) (o : Object) (y : ℕ) → names_target m property.conducting_equipment o ≡ true → id_said o ≡ Some y → is_subject m y ≡ true
 target_subject m (object.Id id) y right is =
-    let type = some_among (said m id.number K1) (typed (is_empty (said m id.number K1)) (is_of m is_part id.number) right) in
-    ap (is_subject m) (sym (same_Some id.number y is)) ∙ said_subject m id.number K1 type.0 type.1
+    let type = some_among (said m id.number property.rdf_type) (typed (is_empty (said m id.number property.rdf_type)) (is_of m is_part id.number) right) in
+    ap (is_subject m) (sym (same_Some id.number y is)) ∙ said_subject m id.number property.rdf_type type.0 type.1
 target_subject m (object.Name text) y right is = absurd cc
 target_subject m (object.Text text) y right is = absurd cc
 
 pub owner_subject : (m : List Statement) (y t : ℕ) → IsFaultless m → owner_of m t ≡ Some y → is_subject m y ≡ true
 owner_subject m y t faultless owned =
-    let stated : IsStated id_said m t K2 y = value_stated id_said m t K2 y owned in
-    target_subject m stated.object y (target_said m t K2 stated.object faultless (inl refl) stated.counts stated.said) stated.read
+    let stated : IsStated id_said m t property.conducting_equipment y = value_stated id_said m t property.conducting_equipment y owned in
+    target_subject m stated.object y (target_said m t property.conducting_equipment stated.object faultless (inl refl) stated.counts stated.said) stated.read
 
 pub owner_equipment : (m : List Statement) (y t : ℕ) → IsFaultless m → owner_of m t ≡ Some y → is_equipment m y ≡ true
 owner_equipment m y t faultless owned =
@@ -55,37 +55,37 @@ owner_class m y t faultless owned = one_class m y t faultless (owner_subject m y
 
 -- each terminal has an owner, and nothing else has one
 pub terminal_owned : (m : List Statement) (t : ℕ) → IsFaultless m → is_of m is_terminal t ≡ true → (y : ℕ) × (owner_of m t ≡ Some y)
-terminal_owned m t faultless terminal = named_value m t K2 faultless (inl refl) (inl refl) terminal (owner_said m t faultless terminal)
+terminal_owned m t faultless terminal = named_value m t property.conducting_equipment faultless (inl refl) (inl refl) terminal (owner_said m t faultless terminal)
 
 pub owned_terminal : (m : List Statement) (y t : ℕ) → owner_of m t ≡ Some y → is_of m is_terminal t ≡ true
-owned_terminal m y t owned = let stated : IsStated id_said m t K2 y = value_stated id_said m t K2 y owned in stated.counts
+owned_terminal m y t owned = let stated : IsStated id_said m t property.conducting_equipment y = value_stated id_said m t property.conducting_equipment y owned in stated.counts
 
 owner_if : (m : List Statement) (t : ℕ) (b : Bool) → is_of m is_terminal t ≡ b → IsFaultless m → is_some (owner_of m t) ≡ b
 owner_if m t true is faultless = ap (λ (o : Option ℕ). is_some o) (terminal_owned m t faultless is).1
-owner_if m t false is faultless = ap (λ (b : Bool). is_some (cond b (first (filter_map id_said (said m t K2))) None)) is
+owner_if m t false is faultless = ap (λ (b : Bool). is_some (cond b (first (filter_map id_said (said m t property.conducting_equipment))) None)) is
 
 pub owner_or_none : (m : List Statement) (t : ℕ) → IsFaultless m → is_some (owner_of m t) ≡ is_of m is_terminal t
 owner_or_none m t faultless = owner_if m t (is_of m is_terminal t) refl faultless
 
 -- the node of a terminal is a node
-target_node : (m : List Statement) (o : Object) (n : ℕ) → names_target m K3 o ≡ true → id_said o ≡ Some n → is_of m is_node n ≡ true
+target_node : (m : List Statement) (o : Object) (n : ℕ) → names_target m property.connectivity_node o ≡ true → id_said o ≡ Some n → is_of m is_node n ≡ true
 target_node m (object.Id id) n right is = ap (is_of m is_node) (sym (same_Some id.number n is)) ∙ right
 target_node m (object.Name text) n right is = absurd cc
 target_node m (object.Text text) n right is = absurd cc
 
 pub node_is : (m : List Statement) (t n : ℕ) → IsFaultless m → node_of m t ≡ Some n → is_of m is_node n ≡ true
 node_is m t n faultless at =
-    let stated : IsStated id_said m t K3 n = value_stated id_said m t K3 n at in
-    target_node m stated.object n (target_said m t K3 stated.object faultless (inr (inl refl)) stated.counts stated.said) stated.read
+    let stated : IsStated id_said m t property.connectivity_node n = value_stated id_said m t property.connectivity_node n at in
+    target_node m stated.object n (target_said m t property.connectivity_node stated.object faultless (inr (inl refl)) stated.counts stated.said) stated.read
 
 -- the terminals at a node are those that stand there
 pub standing_listed : (m : List Statement) (n t : ℕ) → node_of m t ≡ Some n → Among (terminals_at m n) t
 standing_listed m n t at =
-    let stated : IsStated id_said m t K3 n = value_stated id_said m t K3 n at in
-    among_filter (is_of m is_terminal) (naming m K3 n) t (says_naming m K3 n t stated.object stated.said stated.read) stated.counts
+    let stated : IsStated id_said m t property.connectivity_node n = value_stated id_said m t property.connectivity_node n at in
+    among_filter (is_of m is_terminal) (naming m property.connectivity_node n) t (says_naming m property.connectivity_node n t stated.object stated.said stated.read) stated.counts
 
 pub listed_standing : (m : List Statement) (n t : ℕ) → IsFaultless m → Among (terminals_at m n) t → node_of m t ≡ Some n
 listed_standing m n t faultless listed =
-    let terminal : is_of m is_terminal t ≡ true = filter_passes (is_of m is_terminal) (naming m K3 n) t listed in
-    let names = naming_says m K3 n t (filter_among (is_of m is_terminal) (naming m K3 n) t listed) in
-    value_is id_said m t K3 names.0 n terminal (said_once m t K3 names.0 faultless (inr (inl refl)) terminal names.1) names.2
+    let terminal : is_of m is_terminal t ≡ true = filter_passes (is_of m is_terminal) (naming m property.connectivity_node n) t listed in
+    let names = naming_says m property.connectivity_node n t (filter_among (is_of m is_terminal) (naming m property.connectivity_node n) t listed) in
+    value_is id_said m t property.connectivity_node names.0 n terminal (said_once m t property.connectivity_node names.0 faultless (inr (inl refl)) terminal names.1) names.2

@@ -4,6 +4,7 @@ use Rattle.std.specs.List.{All, AllPairs, AllByRecursion, IsDistinct, filter, fi
 use Rattle.std.proofs.lemmas.Bool.Decides.{nat_tests}
 use Rattle.std.proofs.lemmas.List.Kept.{AllPairs-cons}
 use Rattle.std.proofs.lemmas.Option.{same_Some}
+use Rattle.cim_words.specs.Limits.{most_length}
 use Rattle.cim_words.specs.Groups.{is_equipment_class, is_passing, is_segment, is_switch, is_transformer}
 use Rattle.cim_words.specs.declared.class.Class.{Class}
 use Rattle.cim_words.specs.declared.class.Class.TheVariants as class
@@ -151,11 +152,11 @@ mark_stands m o x id divides live (found, there, is, divided) =
 all_of : {X : Type 0} (P : X → Type 0) (xs : List X) → ((x : X) → Among xs x → P x) → All P xs
 all_of P xs each k d below = each _ (among_index xs k d below)
 
-lies_within : (m : List Statement) (o : Overlay) (x : ℕ) (found : Mark) → IsLive m o → IsModelMark m x found ⊎ IsItemMark o x found → found.length.mm ≤ 1000000000000
-lies_within m o x found live (inl of_model) = subst (λ (one : Mark). one.length.mm ≤ 1000000000000) of_model.is (mark_within m of_model.subject)
+lies_within : (m : List Statement) (o : Overlay) (x : ℕ) (found : Mark) → IsLive m o → IsModelMark m x found ⊎ IsItemMark o x found → found.length.mm ≤ most_length
+lies_within m o x found live (inl of_model) = subst (λ (one : Mark). one.length.mm ≤ most_length) of_model.is (mark_within m of_model.subject)
 lies_within m o x found live (inr of_item) =
     let lies = if_some _ (item_segment_number of_item.one) x of_item.on (item_stands m o of_item.one live of_item.listed).lies in
-    subst (λ (n : ℕ). n ≤ 1000000000000) (marked_length of_item.one found of_item.is) lies.limit
+    subst (λ (n : ℕ). n ≤ most_length) (marked_length of_item.one found of_item.is) lies.limit
 
 -- marks of different identifiers
 abbrev OfOther : Mark → Mark → Type 0
@@ -227,7 +228,7 @@ live_marks m o x live = elim (some_item x o.items) [
   | inl none ↦ subst AreMarks (sym (ap (λ (marks : List Mark). marks_of m x ++ marks) none ∙ append-nil (marks_of m x))) (are_marks m x live.faultless)
   | inr some ↦ (let stands = item_stands m o some.0 live some.1 in record {
     few = if_some _ (item_segment_number some.0) x some.2 stands.few;
-    within = all_of (λ (one : Mark). one.length.mm ≤ 1000000000000) (marks_on m o x) (λ found there. lies_within m o x found live (mark_is m o x found there));
+    within = all_of (λ (one : Mark). one.length.mm ≤ most_length) (marks_on m o x) (λ found there. lies_within m o x found live (mark_is m o x found there));
     different = pairs_end_to_end (marks_of m x) (item_marks o x) (are_marks m x live.faultless).different (items_differ x o.items live.stands.identifiers)
         (λ a b here there. live_apart m o x a b live (model_mark m x a here) (mark_of_item o x b there));
     apart = if_some _ (item_segment_number some.0) x some.2 stands.apart;

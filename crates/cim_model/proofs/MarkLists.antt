@@ -4,6 +4,7 @@ use Rattle.std.specs.List.{AllPairs, filter}
 use Rattle.std.proofs.lemmas.Bool.Decides.{nat_tests}
 use Rattle.std.proofs.lemmas.List.{length-map}
 use Rattle.std.proofs.lemmas.List.Elements.{All-map}
+use Rattle.cim_words.specs.Limits.{most_length, most_marks}
 use Rattle.cim_words.specs.Groups.{is_cut, is_segment}
 use Rattle.cim_words.specs.declared.statement.Statement.{Statement}
 use Rattle.segment_cuts.specs.Sections.{AreMarks}
@@ -41,17 +42,17 @@ stands m x y there = is_this x (segment_of m y) (filter_passes (is_on m x) (subj
 
 -- ---- they are few
 
-few_listed : (m : List Statement) (x : ℕ) → IsFaultless m → is_of m is_segment x ≡ true → length (cuts_of m x ++ clamps_of m x) ≤ 256
+few_listed : (m : List Statement) (x : ℕ) → IsFaultless m → is_of m is_segment x ≡ true → length (cuts_of m x ++ clamps_of m x) ≤ most_marks
 few_listed m x faultless segment =
     let kept : breaks_crowd m x ≡ false = keeps m 9 x faultless (class_subject m is_segment x segment) in
     let many : has_many_marks m x ≡ false = (neither (has_many_marks m x) (has_many_terminals m x) kept).0 in
     rw length-append (upto (length (cuts_of m x) + length (clamps_of m x)) (is_of m is_segment x) segment many)
   where
-    upto : (n : ℕ) (b : Bool) → b ≡ true → (b && nat_lt 256 n) ≡ false → n ≤ 256
+    upto : (n : ℕ) (b : Bool) → b ≡ true → (b && nat_lt most_marks n) ≡ false → n ≤ most_marks
     upto n true is h = grind (arith, nat_tests)
     upto n false is h = absurd cc
 
-few_if : (m : List Statement) (x : ℕ) (ys : List ℕ) → IsFaultless m → ((y : ℕ) → Among ys y → segment_of m y ≡ Some x) → AllPairs (λ y z. y ≢ z) ys → length ys ≤ 256
+few_if : (m : List Statement) (x : ℕ) (ys : List ℕ) → IsFaultless m → ((y : ℕ) → Among ys y → segment_of m y ≡ Some x) → AllPairs (λ y z. y ≢ z) ys → length ys ≤ most_marks
 few_if m x [] faultless on different = omega arith
 few_if m x (y ∷ ys) faultless on different =
     let segment = (on_segment m x y faultless (on y (inl refl))).0 in
@@ -59,7 +60,7 @@ few_if m x (y ∷ ys) faultless on different =
       | inl cut ↦ among_left (cuts_of m x) (clamps_of m x) z cut
       | inr clamp ↦ among_right (cuts_of m x) (clamps_of m x) z clamp
     ]) in
-    let most : length (cuts_of m x ++ clamps_of m x) ≤ 256 = few_listed m x faultless segment in
+    let most : length (cuts_of m x ++ clamps_of m x) ≤ most_marks = few_listed m x faultless segment in
     omega arith
 
 -- ---- no cut is at the place of another
@@ -77,7 +78,7 @@ pub are_marks : (m : List Statement) (x : ℕ) → IsFaultless m → AreMarks (m
 unfolding standing
 are_marks m x faultless = record {
   few = rw length-map (few_if m x (standing m x) faultless (stands m x) (differ m x));
-  within = All-map (λ (mark : Mark). mark.length.mm ≤ 1000000000000) (mark m) (standing m x) (λ k d below. mark_within m _);
+  within = All-map (λ (mark : Mark). mark.length.mm ≤ most_length) (mark m) (standing m x) (λ k d below. mark_within m _);
   different = pairs_map (λ (a b : Mark). ¬ (a.id ≡ b.id)) (mark m) (standing m x) (pairs_follow (λ y z. y ≢ z) (λ y z. ¬ (as_id y ≡ as_id z)) (standing m x) (λ y z here there other same. other (ap number_of_id same)) (differ m x));
   apart = pairs_map (λ (a b : Mark). a.length ≡ b.length → (a.divides ≡ false) × (b.divides ≡ false)) (mark m) (standing m x)
       (pairs_follow (λ y z. y ≢ z) (λ y z. (mark m y).length ≡ (mark m z).length → ((mark m y).divides ≡ false) × ((mark m z).divides ≡ false)) (standing m x)

@@ -1,11 +1,12 @@
 -- How far the cuts and clamps of a model without fault are, and that no cut is at the place of another mark of its segment.
 use Rattle.std.proofs.Common.{◌≡◌, ◌≢◌, ℕ, ◌≤◌, ◌⊎◌, inl, inr, List, [], ◌∷◌, Bool, true, false, not, ◌&&◌, ◌||◌, ◌==◌, nat_eq, is_some, Option, Some, None, unwrap_or, refl, sym, subst, arith, ⊎_elim}
 use Rattle.std.specs.List.{cons_option, filter_map, list_any}
+use Rattle.cim_words.specs.Limits.{most_length}
 use Rattle.cim_words.specs.Groups.{is_clamp, is_cut}
 use Rattle.cim_words.specs.declared.class.Class.{Class}
 use Rattle.cim_words.specs.declared.class.Class.TheVariants as class
 use Rattle.cim_words.specs.declared.known_prop.KnownProp.{KnownProp}
-use Rattle.cim_words.specs.declared.known_prop.KnownProp.TheVariants.{K9, K10, K11, K12}
+use Rattle.cim_words.specs.Properties as property
 use Rattle.cim_words.specs.declared.object.Object.{Object}
 use Rattle.cim_words.specs.declared.statement.Statement.{Statement}
 use Rattle.cim_model.specs.Model.{counts, id_said, is_of, naming, said}
@@ -38,16 +39,16 @@ no_cut m y faultless clamp = not_other is_clamp is_cut m y faultless clamp_no_cu
 
 -- ---- a mark is within the greatest length
 
-of_zero : (o : Option ℕ) → ((n : ℕ) → o ≡ Some n → n ≤ 1000000000000) → unwrap_or o 0 ≤ 1000000000000
+of_zero : (o : Option ℕ) → ((n : ℕ) → o ≡ Some n → n ≤ most_length) → unwrap_or o 0 ≤ most_length
 of_zero None within = omega arith
 of_zero (Some n) within = within n refl
 
-stated_within : (m : List Statement) (y : ℕ) (k : KnownProp) (n : ℕ) → value_of length_said m y k ≡ Some n → n ≤ 1000000000000
+stated_within : (m : List Statement) (y : ℕ) (k : KnownProp) (n : ℕ) → value_of length_said m y k ≡ Some n → n ≤ most_length
 stated_within m y k n is = let stated : IsStated length_said m y k n = value_stated length_said m y k n is in said_within stated.object n stated.read
 
-pub mark_within : (m : List Statement) (y : ℕ) → mark_length m y ≤ 1000000000000
-mark_within m y = of_zero (or_else (value_of length_said m y K10) (value_of length_said m y K12)) (λ n is.
-    ⊎_elim (stated_within m y K10 n) (stated_within m y K12 n) (either_value (value_of length_said m y K10) (value_of length_said m y K12) n is))
+pub mark_within : (m : List Statement) (y : ℕ) → mark_length m y ≤ most_length
+mark_within m y = of_zero (or_else (value_of length_said m y property.clamp_length) (value_of length_said m y property.cut_length)) (λ n is.
+    ⊎_elim (stated_within m y property.clamp_length n) (stated_within m y property.cut_length n) (either_value (value_of length_said m y property.clamp_length) (value_of length_said m y property.cut_length) n is))
 
 -- ---- its length is the one that the rules speak of
 
@@ -71,23 +72,23 @@ or_else_none (Some v) = refl
 
 cut_length : (m : List Statement) (y : ℕ) → IsFaultless m → is_of m is_cut y ≡ true → Among (cut_lengths m y) (mark_length m y)
 cut_length m y faultless cut =
-    rw (uncounted length_said m y K10 (no_clamp m y faultless cut), cut)
-    (length_or_zero (said m y K12) (λ o there. form_said m y K12 o faultless (inr (inr (inr (inr (inr (inr (inl refl))))))) cut there))
+    rw (uncounted length_said m y property.clamp_length (no_clamp m y faultless cut), cut)
+    (length_or_zero (said m y property.cut_length) (λ o there. form_said m y property.cut_length o faultless (inr (inr (inr (inr (inr (inr (inl refl))))))) cut there))
 
 clamp_length : (m : List Statement) (y : ℕ) → IsFaultless m → is_of m is_clamp y ≡ true → Among (clamp_lengths m y) (mark_length m y)
 clamp_length m y faultless clamp =
-    rw (uncounted length_said m y K12 (no_cut m y faultless clamp), or_else_none (value_of length_said m y K10), clamp)
-    (length_or_zero (said m y K10) (λ o there. form_said m y K10 o faultless (inr (inr (inr (inr (inr (inl refl)))))) clamp there))
+    rw (uncounted length_said m y property.cut_length (no_cut m y faultless clamp), or_else_none (value_of length_said m y property.clamp_length), clamp)
+    (length_or_zero (said m y property.clamp_length) (λ o there. form_said m y property.clamp_length o faultless (inr (inr (inr (inr (inr (inl refl)))))) clamp there))
 
 -- ---- it is among the cuts or the clamps of its segment
 
-cut_states : (m : List Statement) (x y : ℕ) → IsFaultless m → is_of m is_cut y ≡ true → segment_of m y ≡ Some x → IsStated id_said m y K11 x
-cut_states m x y faultless cut on = value_stated id_said m y K11 x (rw (uncounted id_said m y K9 (no_clamp m y faultless cut)) at on)
+cut_states : (m : List Statement) (x y : ℕ) → IsFaultless m → is_of m is_cut y ≡ true → segment_of m y ≡ Some x → IsStated id_said m y property.cut_segment x
+cut_states m x y faultless cut on = value_stated id_said m y property.cut_segment x (rw (uncounted id_said m y property.clamp_segment (no_clamp m y faultless cut)) at on)
 
 pub mark_listed : (m : List Statement) (x y : ℕ) → segment_of m y ≡ Some x → Among (cuts_of m x) y ⊎ Among (clamps_of m x) y
-mark_listed m x y on = elim (either_value (value_of id_said m y K9) (value_of id_said m y K11) x on) [
-  | inl clamp ↦ (let stated = value_stated id_said m y K9 x clamp in inr (among_filter (is_of m is_clamp) (naming m K9 x) y (says_naming m K9 x y stated.object stated.said stated.read) stated.counts))
-  | inr cut ↦ (let stated = value_stated id_said m y K11 x cut in inl (among_filter (is_of m is_cut) (naming m K11 x) y (says_naming m K11 x y stated.object stated.said stated.read) stated.counts))
+mark_listed m x y on = elim (either_value (value_of id_said m y property.clamp_segment) (value_of id_said m y property.cut_segment) x on) [
+  | inl clamp ↦ (let stated = value_stated id_said m y property.clamp_segment x clamp in inr (among_filter (is_of m is_clamp) (naming m property.clamp_segment x) y (says_naming m property.clamp_segment x y stated.object stated.said stated.read) stated.counts))
+  | inr cut ↦ (let stated = value_stated id_said m y property.cut_segment x cut in inl (among_filter (is_of m is_cut) (naming m property.cut_segment x) y (says_naming m property.cut_segment x y stated.object stated.said stated.read) stated.counts))
 ]
 
 -- ---- no cut is at the length of another mark
@@ -95,10 +96,10 @@ mark_listed m x y on = elim (either_value (value_of id_said m y K9) (value_of id
 place_free : (m : List Statement) (x y : ℕ) → IsFaultless m → is_of m is_cut y ≡ true → segment_of m y ≡ Some x → shares_place m y (cut_lengths m y) x ≡ false
 place_free m x y faultless cut on =
     let kept : breaks_place m y ≡ false = keeps m 8 y faultless (class_subject m is_cut y cut) in
-    let stated : IsStated id_said m y K11 x = cut_states m x y faultless cut on in
+    let stated : IsStated id_said m y property.cut_segment x = cut_states m x y faultless cut on in
     let placed : is_cut_misplaced m y ≡ false = of_cut (is_of m is_clamp y) (is_clamp_misplaced m y) (is_of m is_cut y) (is_cut_misplaced m y) kept cut in
-    let free = none_passes (λ s. is_beyond (cut_lengths m y) (stated_lengths m s) || shares_place m y (cut_lengths m y) s) (ids_said m y K11) x placed
-    (among_filter_map id_said (said m y K11) stated.object x stated.said stated.read) in
+    let free = none_passes (λ s. is_beyond (cut_lengths m y) (stated_lengths m s) || shares_place m y (cut_lengths m y) s) (ids_said m y property.cut_segment) x placed
+    (among_filter_map id_said (said m y property.cut_segment) stated.object x stated.said stated.read) in
     (neither (is_beyond (cut_lengths m y) (stated_lengths m x)) (shares_place m y (cut_lengths m y) x) free).1
   where
     of_cut : (a b c d : Bool) → (a && b || c && d) ≡ false → c ≡ true → d ≡ false
@@ -123,8 +124,8 @@ cut_apart m x y z faultless cut on on' other same =
     let free = neither (shares_with_cut m y (cut_lengths m y) x) (shares_with_clamp m y (cut_lengths m y) x) (place_free m x y faultless cut on) in
     let own = cut_length m y faultless cut in
     elim (mark_listed m x z on') [
-      | inl cut' ↦ other_shares y z (cut_lengths m y) (cut_lengths m z) (mark_length m y) (mark_length m z) other same own (cut_length m z faultless (filter_passes (is_of m is_cut) (naming m K11 x) z cut'))
+      | inl cut' ↦ other_shares y z (cut_lengths m y) (cut_lengths m z) (mark_length m y) (mark_length m z) other same own (cut_length m z faultless (filter_passes (is_of m is_cut) (naming m property.cut_segment x) z cut'))
           (none_passes (λ v. not (v == y) && share_one (cut_lengths m y) (cut_lengths m v)) (cuts_of m x) z free.0 cut')
-      | inr clamp' ↦ other_shares y z (cut_lengths m y) (clamp_lengths m z) (mark_length m y) (mark_length m z) other same own (clamp_length m z faultless (filter_passes (is_of m is_clamp) (naming m K9 x) z clamp'))
+      | inr clamp' ↦ other_shares y z (cut_lengths m y) (clamp_lengths m z) (mark_length m y) (mark_length m z) other same own (clamp_length m z faultless (filter_passes (is_of m is_clamp) (naming m property.clamp_segment x) z clamp'))
           (none_passes (λ v. not (v == y) && share_one (cut_lengths m y) (clamp_lengths m v)) (clamps_of m x) z free.1 clamp')
     ]

@@ -5,7 +5,7 @@ use Rattle.cim_words.specs.Groups.{is_clamp, is_cut, is_segment}
 use Rattle.cim_words.specs.declared.class.Class.{Class}
 use Rattle.cim_words.specs.declared.class.Class.TheVariants as class
 use Rattle.cim_words.specs.declared.known_prop.KnownProp.{KnownProp}
-use Rattle.cim_words.specs.declared.known_prop.KnownProp.TheVariants.{K9, K11}
+use Rattle.cim_words.specs.Properties as property
 use Rattle.cim_words.specs.declared.object.Object.{Object}
 use Rattle.cim_words.specs.declared.object.Object.TheVariants as object
 use Rattle.cim_words.specs.declared.statement.Statement.{Statement}
@@ -55,12 +55,12 @@ stated_segment m k x y faultless listed segments stated =
 
 -- what stands on something is a cut or a clamp, and stands on a segment
 pub on_segment : (m : List Statement) (x y : ℕ) → IsFaultless m → segment_of m y ≡ Some x → (is_of m is_segment x ≡ true) × ((is_of m is_cut y ≡ true) ⊎ (is_of m is_clamp y ≡ true))
-on_segment m x y faultless on = elim (either_value (value_of id_said m y K9) (value_of id_said m y K11) x on) [
-  | inl clamp ↦ (let stated = value_stated id_said m y K9 x clamp in (stated_segment m K9 x y faultless (inr (inr (inl refl))) (λ z. refl) stated, inr stated.counts))
-  | inr cut ↦ (let stated = value_stated id_said m y K11 x cut in (stated_segment m K11 x y faultless (inr (inr (inr (inl refl)))) (λ z. refl) stated, inl stated.counts))
+on_segment m x y faultless on = elim (either_value (value_of id_said m y property.clamp_segment) (value_of id_said m y property.cut_segment) x on) [
+  | inl clamp ↦ (let stated = value_stated id_said m y property.clamp_segment x clamp in (stated_segment m property.clamp_segment x y faultless (inr (inr (inl refl))) (λ z. refl) stated, inr stated.counts))
+  | inr cut ↦ (let stated = value_stated id_said m y property.cut_segment x cut in (stated_segment m property.cut_segment x y faultless (inr (inr (inr (inl refl)))) (λ z. refl) stated, inl stated.counts))
 ]
 
 -- a segment stands on nothing
 pub segment_on_none : (m : List Statement) (x : ℕ) → IsFaultless m → is_of m is_segment x ≡ true → segment_of m x ≡ None
 segment_on_none m x faultless segment =
-    rw (uncounted id_said m x K9 (not_other is_segment is_clamp m x faultless segment_no_clamp segment), uncounted id_said m x K11 (not_other is_segment is_cut m x faultless segment_no_cut segment)) refl
+    rw (uncounted id_said m x property.clamp_segment (not_other is_segment is_clamp m x faultless segment_no_clamp segment), uncounted id_said m x property.cut_segment (not_other is_segment is_cut m x faultless segment_no_cut segment)) refl

@@ -4,7 +4,7 @@ use Rattle.std.specs.List.{filter, filter_map}
 use Rattle.std.proofs.lemmas.Option.{same_Some}
 use Rattle.cim_words.specs.declared.class.Class.{Class}
 use Rattle.cim_words.specs.declared.known_prop.KnownProp.{KnownProp}
-use Rattle.cim_words.specs.declared.known_prop.KnownProp.TheVariants.{K1}
+use Rattle.cim_words.specs.Properties as property
 use Rattle.cim_words.specs.declared.object.Object.{Object}
 use Rattle.cim_words.specs.declared.object.Object.TheVariants as object
 use Rattle.cim_words.specs.declared.statement.Statement.{Statement}
@@ -82,14 +82,14 @@ says_naming m k x y o h is =
     (among_map (λ (s : Statement). s.subject.number) (filter (is_naming k x) m) from.statement (among_filter (is_naming k x) m from.statement from.stands names))
 
 -- what is of a class has a type
-pub of_class : (m : List Statement) (test : Class → Bool) (x : ℕ) → is_of m test x ≡ true → (o : Object) × Among (said m x K1) o
+pub of_class : (m : List Statement) (test : Class → Bool) (x : ℕ) → is_of m test x ≡ true → (o : Object) × Among (said m x property.rdf_type) o
 of_class m test x h =
     let c = any_among test (types m x) h in
-    let from = filter_map_among class_named (said m x K1) c.0 c.1 in
+    let from = filter_map_among class_named (said m x property.rdf_type) c.0 c.1 in
     (from.0, from.1)
 
 pub class_subject : (m : List Statement) (test : Class → Bool) (x : ℕ) → is_of m test x ≡ true → is_subject m x ≡ true
-class_subject m test x h = let type = of_class m test x h in said_subject m x K1 type.0 type.1
+class_subject m test x h = let type = of_class m test x h in said_subject m x property.rdf_type type.0 type.1
 
 -- what is of one class passes just the tests that the class passes
 pub class_passes : (m : List Statement) (test : Class → Bool) (x : ℕ) (c : Class) → types m x ≡ c ∷ [] → is_of m test x ≡ true → test c ≡ true

@@ -4,7 +4,7 @@ use Rattle.std.specs.List.{list_any}
 use Rattle.cim_words.specs.Groups.{has_two_ends, is_cut, is_segment, is_single, is_switch, is_terminal}
 use Rattle.cim_words.specs.declared.class.Class.{Class}
 use Rattle.cim_words.specs.declared.class.Class.TheVariants as class
-use Rattle.cim_words.specs.declared.known_prop.KnownProp.TheVariants.{K2}
+use Rattle.cim_words.specs.Properties as property
 use Rattle.cim_words.specs.declared.statement.Statement.{Statement}
 use Rattle.cim_model.specs.Model.{is_empty, is_of, is_subject, naming, types}
 use Rattle.cim_model.specs.Network.{by_side, first, has_sides, is_some_number, number_of, owner_of, terminals_by_side, with_number}
@@ -161,7 +161,7 @@ sided m x t faultless subject sides there =
     let numbers : breaks_numbers m x ≡ false = keeps m 6 x faultless subject in
     let count = length (terminals_of m x) in
     let two : count ≡ 2 = same_number count 2 (has_two (is_of m has_two_ends x) (count == 2) (is_of m is_single x) (count == 1) _ ends (two_ends m x sides)) in
-    sides_of_two m x t (terminals_of m x) (two_of (terminals_of m x) two) (λ u has. filter_passes (is_of m is_terminal) (naming m K2 x) u has)
+    sides_of_two m x t (terminals_of m x) (two_of (terminals_of m x) two) (λ u has. filter_passes (is_of m is_terminal) (naming m property.conducting_equipment x) u has)
     (right_second (is_of m is_segment x || is_of m is_cut x) (are_misnumbered m x (terminals_of m x)) numbers (segment_or_cut m x sides))
     there
 

@@ -1,4 +1,3 @@
-pub mod Limits
 pub mod Links
 pub mod Live
 pub mod Marks

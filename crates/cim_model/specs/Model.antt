@@ -6,7 +6,7 @@ use Rattle.cim_words.specs.Groups.{counts_on}
 use Rattle.cim_words.specs.KnownProp.{known_row}
 use Rattle.cim_words.specs.declared.class.Class.{Class}
 use Rattle.cim_words.specs.declared.known_prop.KnownProp.{KnownProp}
-use Rattle.cim_words.specs.declared.known_prop.KnownProp.TheVariants.{K1}
+use Rattle.cim_words.specs.Properties as property
 use Rattle.cim_words.specs.declared.object.Object.{Object}
 use Rattle.cim_words.specs.declared.object.Object.TheVariants as object
 use Rattle.cim_words.specs.declared.prop.Prop.{Prop}
@@ -72,7 +72,7 @@ class_named (object.Id id) = None
 class_named (object.Text text) = None
 
 abbrev pub types : List Statement → ℕ → List Class
-types m x = filter_map class_named (said m x K1)
+types m x = filter_map class_named (said m x property.rdf_type)
 
 -- whether a subject is of a class that passes a test
 abbrev pub is_of : List Statement → (Class → Bool) → ℕ → Bool

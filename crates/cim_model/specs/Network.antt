@@ -5,7 +5,7 @@ use Rattle.std.specs.List.{filter, filter_map, list_any}
 use Rattle.cim_words.specs.Groups.{is_terminal, is_node, is_segment, is_cut, is_equipment_class}
 use Rattle.cim_words.specs.declared.class.Class.{Class}
 use Rattle.cim_words.specs.declared.known_prop.KnownProp.{KnownProp}
-use Rattle.cim_words.specs.declared.known_prop.KnownProp.TheVariants.{K2, K3, K4, K5, K6, K7, K8, K9, K10, K11, K12, K13, K14, K15, K16, K17, K19}
+use Rattle.cim_words.specs.Properties as property
 use Rattle.cim_words.specs.declared.object.Object.{Object}
 use Rattle.cim_words.specs.declared.phases.PhaseSet.{PhaseSet}
 use Rattle.cim_words.specs.declared.statement.Statement.{Statement}
@@ -34,24 +34,24 @@ value_of reads m x k = if counts m x k then first (filter_map reads (said m x k)
 
 -- the equipment and the node of a terminal, the phases that it states, and its number
 abbrev pub owner_of : List Statement → ℕ → Option ℕ
-owner_of m t = value_of id_said m t K2
+owner_of m t = value_of id_said m t property.conducting_equipment
 
 abbrev pub node_of : List Statement → ℕ → Option ℕ
-node_of m t = value_of id_said m t K3
+node_of m t = value_of id_said m t property.connectivity_node
 
 abbrev pub stated_phases : List Statement → ℕ → Option PhaseSet
-stated_phases m t = value_of code_said m t K4
+stated_phases m t = value_of code_said m t property.phases
 
 abbrev pub number_of : List Statement → ℕ → Option ℕ
-number_of m t = value_of number_said m t K5
+number_of m t = value_of number_said m t property.sequence_number
 
 -- the length that a segment states, in millimetres
 abbrev pub length_in : List Statement → ℕ → Option ℕ
-length_in m x = value_of length_said m x K8
+length_in m x = value_of length_said m x property.conductor_length
 
 -- whether a switch is open: as stated, else as it normally is, else a cut is open and every other switch closed
 abbrev pub open_of : List Statement → ℕ → Bool
-open_of m x = unwrap_or (value_of truth_said m x K7) (unwrap_or (value_of truth_said m x K6) (is_of m is_cut x))
+open_of m x = unwrap_or (value_of truth_said m x property.switch_open) (unwrap_or (value_of truth_said m x property.normal_open) (is_of m is_cut x))
 
 -- equipment is a subject that is of a class of equipment or has a terminal
 abbrev pub is_equipment : List Statement → ℕ → Bool
@@ -85,17 +85,17 @@ terminals_by_side m x = if is_of m has_sides x then by_side m (terminals_of m x)
 
 -- the equipment that a phase object names, and the phase that it states (of a switch's phase, that of side 1)
 abbrev pub equipment_of : List Statement → ℕ → Option ℕ
-equipment_of m y = or_else (value_of id_said m y K13) (or_else (value_of id_said m y K15) (value_of id_said m y K17))
+equipment_of m y = or_else (value_of id_said m y property.segment_of_phase) (or_else (value_of id_said m y property.consumer_of_phase) (value_of id_said m y property.switch_of_phase))
 
 abbrev pub part_phase : List Statement → ℕ → Option PhaseSet
-part_phase m y = or_else (value_of kind_said m y K14) (or_else (value_of kind_said m y K16) (value_of kind_said m y K19))
+part_phase m y = or_else (value_of kind_said m y property.segment_phase) (or_else (value_of kind_said m y property.consumer_phase) (value_of kind_said m y property.phase_side_1))
 
 -- the phase objects of a piece of equipment: those that name it by a property that counts on them
 abbrev pub naming_by : List Statement → KnownProp → ℕ → List ℕ
 naming_by m k x = filter (λ y. counts m y k) (naming m k x)
 
 abbrev pub parts_of : List Statement → ℕ → List ℕ
-parts_of m x = naming_by m K13 x ++ naming_by m K15 x ++ naming_by m K17 x
+parts_of m x = naming_by m property.segment_of_phase x ++ naming_by m property.consumer_of_phase x ++ naming_by m property.switch_of_phase x
 
 -- the phases that they state
 abbrev pub part_phases : List Statement → ℕ → List PhaseSet
@@ -120,10 +120,10 @@ segment_phases m x = union_or (part_phases m x) (union (map (phases_of m) (termi
 
 -- the segment of a cut or a clamp, and how far it is from the segment's terminal 1, in millimetres: as stated, else at it
 abbrev pub segment_of : List Statement → ℕ → Option ℕ
-segment_of m y = or_else (value_of id_said m y K9) (value_of id_said m y K11)
+segment_of m y = or_else (value_of id_said m y property.clamp_segment) (value_of id_said m y property.cut_segment)
 
 abbrev pub mark_length : List Statement → ℕ → ℕ
-mark_length m y = unwrap_or (or_else (value_of length_said m y K10) (value_of length_said m y K12)) 0
+mark_length m y = unwrap_or (or_else (value_of length_said m y property.clamp_length) (value_of length_said m y property.cut_length)) 0
 
 -- whether a class is there and passes a test
 abbrev pub is_class : (Class → Bool) → Option Class → Bool

@@ -2,10 +2,12 @@
 use Rattle.std.specs.Prelude.{ℕ, ◌+◌, IsTrue, List, [], ◌∷◌, length, Bool, true, false, not, ◌&&◌, ◌||◌, ◌==◌, nat_lt, is_some, nat_eq, slice_index_or}
 use Rattle.std.specs.List.{list_any}
 use Rattle.std.specs.Ordering.{is_eq}
+use Rattle.cim_words.specs.Limits.{most_at_place, most_marks, most_terminals}
 use Rattle.cim_words.specs.Groups.{is_terminal, is_node, is_segment, is_cut, is_clamp, is_single, has_two_ends, is_part, is_known_class, is_switch_phase}
 use Rattle.cim_words.specs.Order.{object_order}
 use Rattle.cim_words.specs.declared.known_prop.KnownProp.{KnownProp}
-use Rattle.cim_words.specs.declared.known_prop.KnownProp.TheVariants.{K1, K2, K3, K4, K5, K6, K7, K8, K9, K10, K11, K12, K13, K14, K15, K16, K17, K18, K19, K20}
+use Rattle.cim_words.specs.Properties as property
+use Rattle.cim_words.specs.declared.known_prop.KnownProp.TheVariants.{K2, K3, K4, K5, K6, K7, K8, K10, K12, K14, K15, K16, K17, K18, K19, K20}
 use Rattle.cim_words.specs.declared.object.Object.{Object}
 use Rattle.cim_words.specs.declared.object.Object.TheVariants as object
 use Rattle.cim_words.specs.declared.statement.Statement.{Statement}
@@ -15,13 +17,13 @@ use Rattle.cim_model.specs.Stated.{terminals_of, terminals_at, cuts_of, clamps_o
 
 -- the properties besides the type, those that name another subject, and those that state a value
 abbrev pub attributes : List KnownProp
-attributes = K2 ∷ K3 ∷ K4 ∷ K5 ∷ K6 ∷ K7 ∷ K8 ∷ K9 ∷ K10 ∷ K11 ∷ K12 ∷ K13 ∷ K14 ∷ K15 ∷ K16 ∷ K17 ∷ K18 ∷ K19 ∷ K20 ∷ []
+attributes = property.conducting_equipment ∷ property.connectivity_node ∷ property.phases ∷ property.sequence_number ∷ property.normal_open ∷ property.switch_open ∷ property.conductor_length ∷ property.clamp_segment ∷ property.clamp_length ∷ property.cut_segment ∷ property.cut_length ∷ property.segment_of_phase ∷ property.segment_phase ∷ property.consumer_of_phase ∷ property.consumer_phase ∷ property.switch_of_phase ∷ property.switch_phase_closed ∷ property.phase_side_1 ∷ property.phase_side_2 ∷ []
 
 abbrev pub references : List KnownProp
-references = K2 ∷ K3 ∷ K9 ∷ K11 ∷ K13 ∷ K15 ∷ K17 ∷ []
+references = property.conducting_equipment ∷ property.connectivity_node ∷ property.clamp_segment ∷ property.cut_segment ∷ property.segment_of_phase ∷ property.consumer_of_phase ∷ property.switch_of_phase ∷ []
 
 abbrev pub values : List KnownProp
-values = K4 ∷ K5 ∷ K6 ∷ K7 ∷ K8 ∷ K10 ∷ K12 ∷ K14 ∷ K16 ∷ K18 ∷ K19 ∷ K20 ∷ []
+values = property.phases ∷ property.sequence_number ∷ property.normal_open ∷ property.switch_open ∷ property.conductor_length ∷ property.clamp_length ∷ property.cut_length ∷ property.segment_phase ∷ property.consumer_phase ∷ property.switch_phase_closed ∷ property.phase_side_1 ∷ property.phase_side_2 ∷ []
 
 -- Rule 1. What has a class of the table, or is named by a terminal as its equipment, has one type statement, and that names a class.
 abbrev pub is_one_name : List Object → Bool
@@ -29,7 +31,7 @@ is_one_name (object.Name text ∷ []) = true
 is_one_name _ = false
 
 abbrev pub breaks_type : List Statement → ℕ → Bool
-breaks_type m x = not (is_one_name (said m x K1)) && (is_of m is_known_class x || not (is_empty (terminals_of m x)))
+breaks_type m x = not (is_one_name (said m x property.rdf_type)) && (is_of m is_known_class x || not (is_empty (terminals_of m x)))
 
 -- Rule 2. A property that counts on a subject is stated at most once.
 abbrev pub states_twice : List Statement → ℕ → KnownProp → Bool
@@ -41,12 +43,12 @@ breaks_once m x = list_any (states_twice m x) attributes
 -- Rule 3. A terminal names its equipment, a clamp and a cut their segment.
 abbrev pub breaks_owner : List Statement → ℕ → Bool
 breaks_owner m x =
-    is_of m is_terminal x && is_empty (said m x K2) || is_of m is_clamp x && is_empty (said m x K9) || is_of m is_cut x && is_empty (said m x K11)
+    is_of m is_terminal x && is_empty (said m x property.conducting_equipment) || is_of m is_clamp x && is_empty (said m x property.clamp_segment) || is_of m is_cut x && is_empty (said m x property.cut_segment)
 
 -- Rule 4. What a reference names is of the right class: a terminal's or phase object's equipment has a type and is no terminal,
 -- node or phase object, a terminal's node is a node, and what a cut, a clamp or a segment's phase stands on is a segment.
 abbrev pub is_thing : List Statement → ℕ → Bool
-is_thing m x = not (is_empty (said m x K1)) && not (is_of m is_part x)
+is_thing m x = not (is_empty (said m x property.rdf_type)) && not (is_of m is_part x)
 
 abbrev pub is_target : List Statement → KnownProp → ℕ → Bool
 is_target m K2 x = is_thing m x
@@ -70,7 +72,7 @@ breaks_target m x = list_any (names_wrongly m x) references
 abbrev pub breaks_terminals : List Statement → ℕ → Bool
 breaks_terminals m x =
     is_of m has_two_ends x && not (length (terminals_of m x) == 2) || is_of m is_single x && not (length (terminals_of m x) == 1)
-    || not (is_of m has_two_ends x || is_of m is_single x) && nat_lt 64 (length (terminals_of m x))
+    || not (is_of m has_two_ends x || is_of m is_single x) && nat_lt most_terminals (length (terminals_of m x))
 
 -- Rule 6. The two terminals of a segment or a cut are numbered 1 and 2. Those of a segment without cuts and clamps may both have no number.
 abbrev pub is_one : ℕ → List ℕ → Bool
@@ -129,21 +131,21 @@ abbrev pub shares_place : List Statement → ℕ → List ℕ → ℕ → Bool
 shares_place m x lengths s = shares_with_cut m x lengths s || shares_with_clamp m x lengths s
 
 abbrev pub is_clamp_misplaced : List Statement → ℕ → Bool
-is_clamp_misplaced m x = list_any (λ s. is_beyond (clamp_lengths m x) (stated_lengths m s)) (ids_said m x K9)
+is_clamp_misplaced m x = list_any (λ s. is_beyond (clamp_lengths m x) (stated_lengths m s)) (ids_said m x property.clamp_segment)
 
 abbrev pub is_cut_misplaced : List Statement → ℕ → Bool
 is_cut_misplaced m x =
-    list_any (λ s. is_beyond (cut_lengths m x) (stated_lengths m s) || shares_place m x (cut_lengths m x) s) (ids_said m x K11)
+    list_any (λ s. is_beyond (cut_lengths m x) (stated_lengths m s) || shares_place m x (cut_lengths m x) s) (ids_said m x property.cut_segment)
 
 abbrev pub breaks_place : List Statement → ℕ → Bool
 breaks_place m x = is_of m is_clamp x && is_clamp_misplaced m x || is_of m is_cut x && is_cut_misplaced m x
 
 -- Rule 9. A segment has at most 256 cuts and clamps, and a node at most 1,024 terminals.
 abbrev pub has_many_marks : List Statement → ℕ → Bool
-has_many_marks m x = is_of m is_segment x && nat_lt 256 (length (cuts_of m x) + length (clamps_of m x))
+has_many_marks m x = is_of m is_segment x && nat_lt most_marks (length (cuts_of m x) + length (clamps_of m x))
 
 abbrev pub has_many_terminals : List Statement → ℕ → Bool
-has_many_terminals m x = is_of m is_node x && nat_lt 1024 (length (terminals_at m x))
+has_many_terminals m x = is_of m is_node x && nat_lt most_at_place (length (terminals_at m x))
 
 abbrev pub breaks_crowd : List Statement → ℕ → Bool
 breaks_crowd m x = has_many_marks m x || has_many_terminals m x
@@ -153,10 +155,10 @@ abbrev pub same_object : Object → Object → Bool
 same_object a b = is_eq (object_order a b)
 
 abbrev pub has_other_side : List Statement → ℕ → Object → Bool
-has_other_side m x side = list_any (λ other. not (same_object side other)) (said m x K20)
+has_other_side m x side = list_any (λ other. not (same_object side other)) (said m x property.phase_side_2)
 
 abbrev pub breaks_sides : List Statement → ℕ → Bool
-breaks_sides m x = is_of m is_switch_phase x && list_any (has_other_side m x) (said m x K19)
+breaks_sides m x = is_of m is_switch_phase x && list_any (has_other_side m x) (said m x property.phase_side_1)
 
 -- which rules a subject breaks, by number; there is no rule 0
 abbrev pub verdicts : List Statement → ℕ → List Bool

@@ -3,7 +3,7 @@ use Rattle.std.proofs.Common.{◌≡◌, ℕ, List, [], ◌∷◌, map, Bool, tr
 use Rattle.std.specs.List.{filter, dedup, list_any}
 use Rattle.std.specs.Option.{option_eq}
 use Rattle.cim_words.specs.declared.class.Class.{Class}
-use Rattle.cim_words.specs.declared.known_prop.KnownProp.TheVariants.{K1}
+use Rattle.cim_words.specs.Properties as property
 use Rattle.cim_words.specs.declared.statement.Statement.{Statement}
 use Rattle.cim_profile.specs.Facts.{Holds, HoldsTypes, is_present_and, present, row_read}
 use Rattle.cim_model.specs.Model.{class_named, is_by, is_empty, is_of, said}
@@ -30,8 +30,8 @@ empty_read f p (x ∷ xs) = empty_one f x (filter p xs) (p x) ∙ ap (λ (r : Bo
 any_value : (test : Class → Bool) (rows : List (Row (Option Class))) (x : ℕ) → list_any test (present (values_at rows x)) ≡ list_any (λ (row : Row (Option Class)). has_key x row && is_present_and test row.value) rows
 any_value test rows x = any_there test (values_at rows x) ∙ any_said (is_present_and test) (λ (row : Row (Option Class)). row.value) (has_key x) rows
 
-pub any_type : (test : Class → Bool) (values : List (Option Class)) (m : List Statement) (x : ℕ) → values ≡ map class_named (said m x K1) → list_any test (present values) ≡ is_of m test x
-any_type test values m x same = ap (λ (those : List (Option Class)). list_any test (present those)) same ∙ ap (list_any test) (sym (filter_map_present class_named (said m x K1)))
+pub any_type : (test : Class → Bool) (values : List (Option Class)) (m : List Statement) (x : ℕ) → values ≡ map class_named (said m x property.rdf_type) → list_any test (present values) ≡ is_of m test x
+any_type test values m x same = ap (λ (those : List (Option Class)). list_any test (present those)) same ∙ ap (list_any test) (sym (filter_map_present class_named (said m x property.rdf_type)))
 
 empty_map : {Y Z : Type 0} (g : Y → Z) (objects : List Y) → is_empty (map g objects) ≡ is_empty objects
 empty_map g [] = refl
@@ -39,19 +39,19 @@ empty_map g (y ∷ ys) = refl
 
 -- what the table of the rows holds, without the repeated ones
 pub types_kept : (same : Row (Option Class) → Row (Option Class) → Bool) → ((one other : Row (Option Class)) → same one other ≡ true → one ≡ other) → (m : List Statement) (rows kept table : List (Row (Option Class)))
-    → rows ≡ map (row_read class_named) (filter (is_by K1) m) → kept ≡ dedup same rows → ((x : ℕ) → rows_at table x ≡ rows_at kept x) → HoldsTypes m table
+    → rows ≡ map (row_read class_named) (filter (is_by property.rdf_type) m) → kept ≡ dedup same rows → ((x : ℕ) → rows_at table x ≡ rows_at kept x) → HoldsTypes m table
 types_kept same equal m rows kept table those are found x = record {
   any = λ test. ap (list_any test) (ap present here) ∙ any_value test kept x ∙ ap (list_any (λ (row : Row (Option Class)). has_key x row && is_present_and test row.value)) are
       ∙ any_dedup same equal _ rows ∙ sym (any_value test rows x) ∙ any_type test (values_at rows x) m x (whole x);
   empty = ap is_empty here ∙ empty_read _ (has_key x) kept ∙ ap (λ (list : List (Row (Option Class))). not (list_any (has_key x) list)) are
-      ∙ ap not (any_dedup same equal (has_key x) rows) ∙ sym (empty_read _ (has_key x) rows) ∙ ap is_empty (whole x) ∙ empty_map class_named (said m x K1);
+      ∙ ap not (any_dedup same equal (has_key x) rows) ∙ sym (empty_read _ (has_key x) rows) ∙ ap is_empty (whole x) ∙ empty_map class_named (said m x property.rdf_type);
 }
   where
     here : values_at table x ≡ values_at kept x
     here = ap (map (λ (row : Row (Option Class)). row.value)) (found x)
 
-    whole : Holds class_named K1 m rows
-    whole = holds_kept class_named K1 m rows rows those (λ y. refl)
+    whole : Holds class_named property.rdf_type m rows
+    whole = holds_kept class_named property.rdf_type m rows rows those (λ y. refl)
 
 -- ---- equality of rows
 

@@ -5,7 +5,7 @@ use Rattle.cim_words.specs.Groups as groups
 use Rattle.cim_words.specs.declared.class.Class.{Class}
 use Rattle.cim_words.specs.declared.identifier.Id.{Id}
 use Rattle.cim_words.specs.declared.known_prop.KnownProp.{KnownProp}
-use Rattle.cim_words.specs.declared.known_prop.KnownProp.TheVariants.{K1}
+use Rattle.cim_words.specs.Properties as property
 use Rattle.cim_words.specs.declared.length.Length.{Length}
 use Rattle.cim_words.specs.declared.object.Object.{Object}
 use Rattle.cim_words.specs.declared.statement.Statement.{Statement}
@@ -61,7 +61,7 @@ present {V} values = filter_map (λ (value : Option V). value) values
 -- values name the classes that the type statements of a subject name, however often, and there are some where it has any
 pub record NameTypes (m : List Statement) (x : ℕ) (values : List (Option Class)) : Type 0 where
   pub any : (test : Class → Bool) → list_any test (present values) ≡ is_of m test x
-  pub empty : is_empty values ≡ is_empty (said m x K1)
+  pub empty : is_empty values ≡ is_empty (said m x property.rdf_type)
 
 -- the rows of a subject name the classes that its type statements name
 abbrev pub HoldsTypes : List Statement → List (Row (Option Class)) → Type 0

@@ -2,7 +2,7 @@
 use Rattle.std.specs.Prelude.{ℕ, List, Bool}
 use Rattle.std.specs.List.{filter}
 use Rattle.cim_words.specs.declared.known_prop.KnownProp.{KnownProp}
-use Rattle.cim_words.specs.declared.known_prop.KnownProp.TheVariants.{K9, K10, K11, K12}
+use Rattle.cim_words.specs.Properties as property
 use Rattle.cim_words.specs.declared.statement.Statement.{Statement}
 use Rattle.cim_model.specs.Model.{is_of, naming, said}
 use Rattle.cim_model.specs.Stated.{or_zero}
@@ -18,12 +18,12 @@ class_of Cut = kind.Cut
 class_of Clamp = kind.Clamp
 
 abbrev pub segment_of : MarkKind → KnownProp
-segment_of Cut = K11
-segment_of Clamp = K9
+segment_of Cut = property.cut_segment
+segment_of Clamp = property.clamp_segment
 
 abbrev pub length_of : MarkKind → KnownProp
-length_of Cut = K12
-length_of Clamp = K10
+length_of Cut = property.cut_length
+length_of Clamp = property.clamp_length
 
 -- whether a subject is a mark of a kind
 abbrev pub is_mark : List Statement → MarkKind → ℕ → Bool

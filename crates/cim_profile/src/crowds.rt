@@ -8,7 +8,7 @@ use crate::facts::Facts;
 use crate::kind::Kind;
 use crate::mark_kind::MarkKind;
 use crate::subject::Subject;
-use cim_words::{Id, NoMemory};
+use cim_words::{Id, MOST_AT_PLACE, MOST_MARKS, MOST_TERMINALS, NoMemory};
 use std::alloc::Global;
 
 /// A segment or switch has two terminals, what is single has one, and other equipment has at most 64.
@@ -26,7 +26,7 @@ pub(crate) fn breaks_terminals(
     Ok(
         two_ended && terminals != 2
             || single && terminals != 1
-            || !(two_ended || single) && terminals > 64,
+            || !(two_ended || single) && terminals > MOST_TERMINALS,
     )
 }
 
@@ -109,7 +109,7 @@ fn has_many_marks(alloc: Global, facts: &Facts<'_>, subject: &Subject<'_>) -> Re
     }
     let cuts = facts.marks_of(alloc, MarkKind::Cut, subject.id)?.len();
     let clamps = facts.marks_of(alloc, MarkKind::Clamp, subject.id)?.len();
-    Ok(cuts > 256 || cuts + clamps > 256)
+    Ok(cuts > MOST_MARKS || cuts + clamps > MOST_MARKS)
 }
 
 fn has_many_terminals(
@@ -123,5 +123,5 @@ fn has_many_terminals(
     if !subject.is_of(Kind::Node) {
         return Ok(false);
     }
-    Ok(facts.terminals_at(alloc, subject.id)?.len() > 1024)
+    Ok(facts.terminals_at(alloc, subject.id)?.len() > MOST_AT_PLACE)
 }

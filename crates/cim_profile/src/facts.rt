@@ -5,7 +5,7 @@ ghost use Rattle.std.specs.List.{filter, list_any};
 ghost use Rattle.statement_set.specs.Set.{IsOrdered};
 ghost use Rattle.cim_words.specs.declared.class.Class.{Class};
 ghost use Rattle.cim_words.specs.declared.known_prop.KnownProp.{KnownProp};
-ghost use Rattle.cim_words.specs.declared.known_prop.KnownProp.TheVariants.{K2, K3, K5, K8};
+ghost use Rattle.cim_words.specs.Properties as property;
 ghost use Rattle.cim_profile.specs.Facts as spec;
 ghost use Rattle.cim_profile.specs.MarkKind as marks;
 ghost use Rattle.cim_profile.specs.declared.mark_kind.MarkKind.TheVariants.{Cut, Clamp};
@@ -37,12 +37,12 @@ pub(crate) struct Facts<'a> {
     cut_lengths: Table<Option<Length>>,
     clamp_lengths: Table<Option<Length>>,
     ghost of_types: { spec.HoldsTypes statements.now types },
-    ghost of_terminals: { spec.HoldsNaming K2 statements.now terminals },
-    ghost of_terminals_at: { spec.HoldsNaming K3 statements.now terminals_at },
+    ghost of_terminals: { spec.HoldsNaming property.conducting_equipment statements.now terminals },
+    ghost of_terminals_at: { spec.HoldsNaming property.connectivity_node statements.now terminals_at },
     ghost of_cuts: { spec.HoldsNaming (marks.segment_of Cut) statements.now cuts },
     ghost of_clamps: { spec.HoldsNaming (marks.segment_of Clamp) statements.now clamps },
-    ghost of_numbers: { spec.Holds values.number_said K5 statements.now numbers },
-    ghost of_lengths: { spec.Holds spec.length_read K8 statements.now lengths },
+    ghost of_numbers: { spec.Holds values.number_said property.sequence_number statements.now numbers },
+    ghost of_lengths: { spec.Holds spec.length_read property.conductor_length statements.now lengths },
     ghost of_cut_lengths: { spec.Holds spec.length_read (marks.length_of Cut) statements.now cut_lengths },
     ghost of_clamp_lengths: { spec.Holds spec.length_read (marks.length_of Clamp) statements.now clamp_lengths },
 }
@@ -55,12 +55,12 @@ impl<'a> Facts<'a> {
         Ok(Facts {
             statements,
             types: types(alloc, statements)?,
-            terminals: naming(alloc, statements, KnownProp::K2)?,
-            terminals_at: naming(alloc, statements, KnownProp::K3)?,
+            terminals: naming(alloc, statements, KnownProp::CONDUCTING_EQUIPMENT)?,
+            terminals_at: naming(alloc, statements, KnownProp::CONNECTIVITY_NODE)?,
             cuts: naming(alloc, statements, MarkKind::Cut.segment())?,
             clamps: naming(alloc, statements, MarkKind::Clamp.segment())?,
-            numbers: values(alloc, statements, KnownProp::K5)?,
-            lengths: values(alloc, statements, KnownProp::K8)?,
+            numbers: values(alloc, statements, KnownProp::SEQUENCE_NUMBER)?,
+            lengths: values(alloc, statements, KnownProp::CONDUCTOR_LENGTH)?,
             cut_lengths: values(alloc, statements, MarkKind::Cut.length())?,
             clamp_lengths: values(alloc, statements, MarkKind::Clamp.length())?,
         })

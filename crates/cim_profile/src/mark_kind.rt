@@ -29,8 +29,8 @@ impl MarkKind {
         ensures { result ≡ spec.segment_of self }
     {
         match self {
-            MarkKind::Cut => KnownProp::K11,
-            MarkKind::Clamp => KnownProp::K9,
+            MarkKind::Cut => KnownProp::CUT_SEGMENT,
+            MarkKind::Clamp => KnownProp::CLAMP_SEGMENT,
         }
     }
 
@@ -39,8 +39,8 @@ impl MarkKind {
         ensures { result ≡ spec.length_of self }
     {
         match self {
-            MarkKind::Cut => KnownProp::K12,
-            MarkKind::Clamp => KnownProp::K10,
+            MarkKind::Cut => KnownProp::CUT_LENGTH,
+            MarkKind::Clamp => KnownProp::CLAMP_LENGTH,
         }
     }
 }

@@ -51,9 +51,9 @@ fn states_twice(subject: &Subject<'_>, known: KnownProp) -> bool
 pub(crate) fn breaks_owner(subject: &Subject<'_>) -> bool
     ensures { (m : List Statement) → IsSubjectOf m subject.now → result ≡ spec.breaks_owner m subject.now.id.number }
 {
-    subject.is_of(Kind::Terminal) && is_silent(&subject.statements, KnownProp::K2)
-        || subject.is_of(Kind::Clamp) && is_silent(&subject.statements, KnownProp::K9)
-        || subject.is_of(Kind::Cut) && is_silent(&subject.statements, KnownProp::K11)
+    subject.is_of(Kind::Terminal) && is_silent(&subject.statements, KnownProp::CONDUCTING_EQUIPMENT)
+        || subject.is_of(Kind::Clamp) && is_silent(&subject.statements, KnownProp::CLAMP_SEGMENT)
+        || subject.is_of(Kind::Cut) && is_silent(&subject.statements, KnownProp::CUT_SEGMENT)
 }
 
 /// What a reference names is of the right class.
@@ -118,14 +118,14 @@ pub(crate) fn breaks_sides(subject: &Subject<'_>) -> bool
     ensures { (m : List Statement) → IsSubjectOf m subject.now → result ≡ spec.breaks_sides m subject.now.id.number }
 {
     subject.is_of(Kind::SwitchPhase)
-        && subject.statements.again().any(|statement| is_by(KnownProp::K19, statement)
+        && subject.statements.again().any(|statement| is_by(KnownProp::PHASE_SIDE_1, statement)
             && has_other_side(subject, &statement.object))
 }
 
 fn has_other_side(subject: &Subject<'_>, side: &Object) -> bool
     ensures { (m : List Statement) → IsSubjectOf m subject.now → result ≡ spec.has_other_side m subject.now.id.number side.now }
 {
-    subject.statements.again().any(|statement| is_by(KnownProp::K20, statement)
+    subject.statements.again().any(|statement| is_by(KnownProp::PHASE_SIDE_2, statement)
         && !is_same(side, &statement.object))
 }
 

@@ -3,7 +3,7 @@
 ghost use Rattle.std.specs.Prelude.{◌≡◌, length};
 ghost use Rattle.cim_model.specs.Model as spec;
 ghost use Rattle.cim_model.specs.Profile.{is_one_name};
-ghost use Rattle.cim_words.specs.declared.known_prop.KnownProp.TheVariants.{K1};
+ghost use Rattle.cim_words.specs.Properties as property;
 
 use cim_model::is_by;
 use cim_words::{KnownProp, Object};
@@ -28,9 +28,9 @@ pub(crate) fn is_silent(statements: &About<'_>, known: KnownProp) -> bool
 
 /// Whether there is one type statement, and it names a class.
 pub(crate) fn has_one_name(statements: &About<'_>) -> bool
-    ensures { result ≡ is_one_name (spec.said_in statements.now K1) }
+    ensures { result ≡ is_one_name (spec.said_in statements.now property.rdf_type) }
 {
-    count(statements, KnownProp::K1) == 1
-        && statements.again().any(|statement| is_by(KnownProp::K1, statement)
+    count(statements, KnownProp::RDF_TYPE) == 1
+        && statements.again().any(|statement| is_by(KnownProp::RDF_TYPE, statement)
             && matches!(statement.object, Object::Name(_)))
 }

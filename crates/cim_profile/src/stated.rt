@@ -66,7 +66,7 @@ pub(crate) fn types(
 ) -> Result<Table<Option<Class>>, NoMemory>
     ensures { IfOk result (spec.HoldsTypes statements.now) }
 {
-    let mut rows = rows(alloc, statements, KnownProp::K1)?;
+    let mut rows = rows(alloc, statements, KnownProp::RDF_TYPE)?;
     equal_rows_are_one();
     rows.dedup();
     Table::of(rows)

@@ -5,7 +5,7 @@ use Rattle.std.specs.List.{filter}
 use Rattle.std.proofs.lemmas.List.{map-append}
 use Rattle.cim_words.specs.Groups.{is_terminal}
 use Rattle.cim_words.specs.declared.identifier.Id.{Id}
-use Rattle.cim_words.specs.declared.known_prop.KnownProp.TheVariants.{K2, K3}
+use Rattle.cim_words.specs.Properties as property
 use Rattle.cim_words.specs.declared.statement.Statement.{Statement}
 use Rattle.cim_model.specs.Model.{is_naming, is_of, naming}
 use Rattle.cim_model.proofs.Runs.{same_number}
@@ -98,8 +98,8 @@ module _ (m : List Statement) (faultless : IsFaultless m) (x : ℕ) where
 
   sides_gathered : gathered FirstTerminals (records m) m x ++ gathered OtherTerminals (records m) m x ≡ terminals_by_side m x
   sides_gathered =
-      ap (λ (ts : List ℕ). ts ++ gathered OtherTerminals (records m) m x) (filter_same _ _ first_taken (naming m K2 x) ∙ sym (filter_twice leading (is_of m is_terminal) (naming m K2 x)))
-      ∙ ap (λ (ts : List ℕ). filter leading (terminals_of m x) ++ ts) (filter_same _ _ other_taken (naming m K2 x) ∙ sym (filter_twice (λ t. not (leading t)) (is_of m is_terminal) (naming m K2 x)))
+      ap (λ (ts : List ℕ). ts ++ gathered OtherTerminals (records m) m x) (filter_same _ _ first_taken (naming m property.conducting_equipment x) ∙ sym (filter_twice leading (is_of m is_terminal) (naming m property.conducting_equipment x)))
+      ∙ ap (λ (ts : List ℕ). filter leading (terminals_of m x) ++ ts) (filter_same _ _ other_taken (naming m property.conducting_equipment x) ∙ sym (filter_twice (λ t. not (leading t)) (is_of m is_terminal) (naming m property.conducting_equipment x)))
       ∙ sym (terminals_parted m faultless x)
 
   -- the terminals 1 of what has sides, and behind them all others
@@ -113,4 +113,4 @@ module _ (m : List Statement) (faultless : IsFaultless m) (x : ℕ) where
 
   pub node_gathered : (subjects : List (Id × Subject)) (none first : List (Id × List Id)) → subjects ≡ records m → none ≡ [] → members first x ≡ members none x ++ map as_id (gathered NodeTerminals subjects m x) → members first x ≡ map as_id (terminals_at m x)
   node_gathered subjects none first are empty one =
-      one ∙ rw (are, empty) refl ∙ ap (map as_id) (filter_same _ _ (λ t. is_known m faultless t is_terminal) (naming m K3 x))
+      one ∙ rw (are, empty) refl ∙ ap (map as_id) (filter_same _ _ (λ t. is_known m faultless t is_terminal) (naming m property.connectivity_node x))

@@ -4,7 +4,7 @@ use Rattle.std.specs.Prelude.{nat_lt}
 use Rattle.std.specs.List.{cons_option, filter_map}
 use Rattle.std.proofs.lemmas.Bool.Decides.{nat_tests}
 use Rattle.cim_words.specs.Groups.{counts_on}
-use Rattle.cim_words.specs.declared.known_prop.KnownProp.TheVariants.{K1}
+use Rattle.cim_words.specs.Properties as property
 use Rattle.cim_words.specs.declared.object.Object.{Object}
 use Rattle.cim_words.specs.declared.statement.Statement.{Statement}
 use Rattle.cim_model.specs.Model.{about, counts, is_about, is_subject, said}
@@ -42,13 +42,13 @@ value_at reads objects true false same h = absurd cc
 value_at reads objects false true same h = absurd cc
 value_at reads objects false false same h = refl
 
-once_at : (m : List Statement) (x : ℕ) (i : ℕ) → IsFaultless m → i < 19 → (b : Bool) → is_subject m x ≡ b → states_twice m x (get_or attributes i K1) ≡ false
-once_at m x i faultless within true is = none_at (states_twice m x) attributes i K1 (keeps m 2 x faultless is) within
+once_at : (m : List Statement) (x : ℕ) (i : ℕ) → IsFaultless m → i < 19 → (b : Bool) → is_subject m x ≡ b → states_twice m x (get_or attributes i property.rdf_type) ≡ false
+once_at m x i faultless within true is = none_at (states_twice m x) attributes i property.rdf_type (keeps m 2 x faultless is) within
 once_at m x i faultless within false is = rw (silent m x is) refl
 
 -- a property states one value at most
 pub value_is : {V : Type 0} (reads : Object → Option V) (m : List Statement) (x : ℕ) (i : ℕ) → IsFaultless m → i < 19
-    → value_of reads m x (get_or attributes i K1) ≡ value_in reads (class_in m x) (about m x) (get_or attributes i K1)
+    → value_of reads m x (get_or attributes i property.rdf_type) ≡ value_in reads (class_in m x) (about m x) (get_or attributes i property.rdf_type)
 value_is reads m x i faultless within =
-    let k = get_or attributes i K1 in
+    let k = get_or attributes i property.rdf_type in
     value_at reads (said m x k) (counts m x k) (is_class (counts_on k) (class_in m x)) (one_class (counts_on k) m x faultless) (once_at m x i faultless within (is_subject m x) refl)

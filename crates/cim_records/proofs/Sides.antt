@@ -8,7 +8,7 @@ use Rattle.cim_words.specs.Phases.{has_phase}
 use Rattle.cim_words.specs.declared.class.Class.{Class}
 use Rattle.cim_words.specs.declared.class.Class.TheVariants as class
 use Rattle.cim_words.specs.declared.identifier.Id.{Id}
-use Rattle.cim_words.specs.declared.known_prop.KnownProp.TheVariants.{K2}
+use Rattle.cim_words.specs.Properties as property
 use Rattle.cim_words.specs.declared.statement.Statement.{Statement}
 use Rattle.cim_model.specs.Model.{is_empty, is_of, naming}
 use Rattle.cim_model.specs.Network.{by_side, class_in, first, has_sides, is_class, is_some_number, number_of, terminals_by_side, phases_of}
@@ -80,7 +80,7 @@ no_others p [] = refl
 no_others p (x ∷ xs) = other_one p x (filter p xs) (p x) refl (no_others p xs)
 
 others_of : (m : List Statement) (x : ℕ) (ts : List ℕ) → terminals_of m x ≡ ts → list_any (λ t. not (is_of m is_terminal t)) ts ≡ false
-others_of m x ts is = ap (list_any (λ t. not (is_of m is_terminal t))) (sym is) ∙ no_others (is_of m is_terminal) (naming m K2 x)
+others_of m x ts is = ap (list_any (λ t. not (is_of m is_terminal t))) (sym is) ∙ no_others (is_of m is_terminal) (naming m property.conducting_equipment x)
 
 sided : (m : List Statement) (x : ℕ) (ts : List ℕ) → terminals_of m x ≡ ts → length ts ≡ 2 → are_misnumbered m x ts ≡ false → by_side m ts ≡ parted (is_first m) ts
 sided m x [] is two rule = absurd (omega arith)

@@ -7,7 +7,7 @@ use Rattle.std.proofs.lemmas.List.Elements.{filter-append}
 use Rattle.cim_words.specs.Groups.{counts_on}
 use Rattle.cim_words.specs.declared.identifier.Id.{Id}
 use Rattle.cim_words.specs.declared.known_prop.KnownProp.{KnownProp}
-use Rattle.cim_words.specs.declared.known_prop.KnownProp.TheVariants.{K13, K15, K17}
+use Rattle.cim_words.specs.Properties as property
 use Rattle.cim_words.specs.declared.phases.PhaseSet.{PhaseSet}
 use Rattle.cim_words.specs.declared.statement.Statement.{Statement}
 use Rattle.cim_model.specs.Model.{counts, is_naming, naming}
@@ -112,23 +112,23 @@ module _ (m : List Statement) (faultless : IsFaultless m) (x : ℕ) where
       ap (filter_map (phase (records m) k x)) (filter_same (counted (records m) k x) (λ y. counts m y k) (λ y. is_known m faultless y (counts_on k)) (naming m k x))
       ∙ filter_map_same (phase (records m) k x) (part_phase m) (λ y. phase_known m faultless y) (naming_by m k x)
 
-  all_stated : part_phases m x ≡ stated_by (records m) m K13 x ++ stated_by (records m) m K15 x ++ stated_by (records m) m K17 x
+  all_stated : part_phases m x ≡ stated_by (records m) m property.segment_of_phase x ++ stated_by (records m) m property.consumer_of_phase x ++ stated_by (records m) m property.switch_of_phase x
   all_stated =
-      filter_map_append (part_phase m) (naming_by m K13 x ++ naming_by m K15 x) (naming_by m K17 x)
-      ∙ ap (λ (sets : List PhaseSet). sets ++ filter_map (part_phase m) (naming_by m K17 x)) (filter_map_append (part_phase m) (naming_by m K13 x) (naming_by m K15 x))
-      ∙ rw (stated_is K13, stated_is K15, stated_is K17) refl
+      filter_map_append (part_phase m) (naming_by m property.segment_of_phase x ++ naming_by m property.consumer_of_phase x) (naming_by m property.switch_of_phase x)
+      ∙ ap (λ (sets : List PhaseSet). sets ++ filter_map (part_phase m) (naming_by m property.switch_of_phase x)) (filter_map_append (part_phase m) (naming_by m property.segment_of_phase x) (naming_by m property.consumer_of_phase x))
+      ∙ rw (stated_is property.segment_of_phase, stated_is property.consumer_of_phase, stated_is property.switch_of_phase) refl
 
-  joined_in_turn : (first second third : Option PhaseSet) → first ≡ join_all None (stated_by (records m) m K13 x) → second ≡ join_all first (stated_by (records m) m K15 x)
-      → third ≡ join_all second (stated_by (records m) m K17 x) → third ≡ union_of (part_phases m x)
+  joined_in_turn : (first second third : Option PhaseSet) → first ≡ join_all None (stated_by (records m) m property.segment_of_phase x) → second ≡ join_all first (stated_by (records m) m property.consumer_of_phase x)
+      → third ≡ join_all second (stated_by (records m) m property.switch_of_phase x) → third ≡ union_of (part_phases m x)
   joined_in_turn first second third one two three =
       three
-      ∙ ap (λ (o : Option PhaseSet). join_all o (stated_by (records m) m K17 x)) (two ∙ ap (λ (o : Option PhaseSet). join_all o (stated_by (records m) m K15 x)) one ∙ sym (join_append None (stated_by (records m) m K13 x) (stated_by (records m) m K15 x)))
-      ∙ sym (join_append None (stated_by (records m) m K13 x ++ stated_by (records m) m K15 x) (stated_by (records m) m K17 x))
+      ∙ ap (λ (o : Option PhaseSet). join_all o (stated_by (records m) m property.switch_of_phase x)) (two ∙ ap (λ (o : Option PhaseSet). join_all o (stated_by (records m) m property.consumer_of_phase x)) one ∙ sym (join_append None (stated_by (records m) m property.segment_of_phase x) (stated_by (records m) m property.consumer_of_phase x)))
+      ∙ sym (join_append None (stated_by (records m) m property.segment_of_phase x ++ stated_by (records m) m property.consumer_of_phase x) (stated_by (records m) m property.switch_of_phase x))
       ∙ ap (join_all None) (sym all_stated)
       ∙ joined_is (part_phases m x)
 
   -- the phases of the phase objects of each kind, joined one kind after the other
   pub all_joined : (subjects : List (Id × Subject)) (none : List (Id × PhaseSet)) (first second third : Option PhaseSet) → subjects ≡ records m → none ≡ []
-      → first ≡ join_all (found none x) (stated_by subjects m K13 x) → second ≡ join_all first (stated_by subjects m K15 x) → third ≡ join_all second (stated_by subjects m K17 x) → third ≡ union_of (part_phases m x)
+      → first ≡ join_all (found none x) (stated_by subjects m property.segment_of_phase x) → second ≡ join_all first (stated_by subjects m property.consumer_of_phase x) → third ≡ join_all second (stated_by subjects m property.switch_of_phase x) → third ≡ union_of (part_phases m x)
   all_joined subjects none first second third are empty one two three =
       joined_in_turn first second third (one ∙ rw (are, empty) refl) (two ∙ rw are refl) (three ∙ rw are refl)

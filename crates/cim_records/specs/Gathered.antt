@@ -4,7 +4,7 @@ use Rattle.std.specs.List.{filter}
 use Rattle.cim_words.specs.Groups.{is_terminal}
 use Rattle.cim_words.specs.declared.identifier.Id.{Id}
 use Rattle.cim_words.specs.declared.known_prop.KnownProp.{KnownProp}
-use Rattle.cim_words.specs.declared.known_prop.KnownProp.TheVariants.{K2, K3}
+use Rattle.cim_words.specs.Properties as property
 use Rattle.cim_words.specs.declared.statement.Statement.{Statement}
 use Rattle.cim_model.specs.Model.{naming}
 use Rattle.cim_model.specs.Network.{has_sides, is_class, is_some_number}
@@ -15,9 +15,9 @@ use Rattle.cim_records.specs.declared.subject.Subject.{Subject}
 
 -- the property by which terminals name what they are gathered under
 abbrev pub property_of : Gathering → KnownProp
-property_of FirstTerminals = K2
-property_of OtherTerminals = K2
-property_of NodeTerminals = K3
+property_of FirstTerminals = property.conducting_equipment
+property_of OtherTerminals = property.conducting_equipment
+property_of NodeTerminals = property.connectivity_node
 
 -- a terminal leads where it has the number 1 and its equipment has sides
 abbrev pub leads : Subject → Subject → Bool

@@ -5,7 +5,7 @@ use Rattle.cim_words.specs.Groups.{counts_on, is_cut}
 use Rattle.cim_words.specs.declared.class.Class.{Class}
 use Rattle.cim_words.specs.declared.identifier.Id.{Id}
 use Rattle.cim_words.specs.declared.known_prop.KnownProp.{KnownProp}
-use Rattle.cim_words.specs.declared.known_prop.KnownProp.TheVariants.{K1, K2, K3, K4, K5, K6, K7, K8, K9, K10, K11, K12, K13, K14, K15, K16, K17, K19}
+use Rattle.cim_words.specs.Properties as property
 use Rattle.cim_words.specs.declared.object.Object.{Object}
 use Rattle.cim_words.specs.declared.phases.PhaseSet.{PhaseSet}
 use Rattle.cim_words.specs.declared.statement.Statement.{Statement}
@@ -22,7 +22,7 @@ read_of reads (Some object) = reads object
 
 -- the class that the statements about a subject name
 abbrev pub class_said : List Statement → Option Class
-class_said statements = first (filter_map class_named (said_in statements K1))
+class_said statements = first (filter_map class_named (said_in statements property.rdf_type))
 
 -- the objects that they say by a property, where it counts on a class
 abbrev pub counted : Option Class → List Statement → KnownProp → List Object
@@ -34,33 +34,33 @@ value_in reads class statements k = read_of reads (first (counted class statemen
 
 -- whether a switch is open, the equipment that a phase object names, and the phase that it states
 abbrev pub open_in : Option Class → List Statement → Bool
-open_in class statements = unwrap_or (value_in truth_said class statements K7) (unwrap_or (value_in truth_said class statements K6) (is_class is_cut class))
+open_in class statements = unwrap_or (value_in truth_said class statements property.switch_open) (unwrap_or (value_in truth_said class statements property.normal_open) (is_class is_cut class))
 
 abbrev pub equipment_in : Option Class → List Statement → Option ℕ
 equipment_in class statements =
-    or_else (value_in id_said class statements K13) (or_else (value_in id_said class statements K15) (value_in id_said class statements K17))
+    or_else (value_in id_said class statements property.segment_of_phase) (or_else (value_in id_said class statements property.consumer_of_phase) (value_in id_said class statements property.switch_of_phase))
 
 abbrev pub phase_in : Option Class → List Statement → Option PhaseSet
 phase_in class statements =
-    or_else (value_in kind_said class statements K14) (or_else (value_in kind_said class statements K16) (value_in kind_said class statements K19))
+    or_else (value_in kind_said class statements property.segment_phase) (or_else (value_in kind_said class statements property.consumer_phase) (value_in kind_said class statements property.phase_side_1))
 
 -- the segment of a clamp or a cut, and how far it is from the segment's terminal 1
 abbrev pub segment_in : Option Class → List Statement → Option ℕ
-segment_in class statements = or_else (value_in id_said class statements K9) (value_in id_said class statements K11)
+segment_in class statements = or_else (value_in id_said class statements property.clamp_segment) (value_in id_said class statements property.cut_segment)
 
 abbrev pub mark_length_in : Option Class → List Statement → ℕ
 mark_length_in class statements =
-    unwrap_or (or_else (value_in length_said class statements K10) (value_in length_said class statements K12)) 0
+    unwrap_or (or_else (value_in length_said class statements property.clamp_length) (value_in length_said class statements property.cut_length)) 0
 
 -- what statements say of their subject, whose class is known
 abbrev pub subject_of : Option Class → List Statement → Subject
 subject_of class statements = record {
   class = class;
-  owner = option_map as_id (value_in id_said class statements K2);
-  node = option_map as_id (value_in id_said class statements K3);
-  phases = value_in code_said class statements K4;
-  number = value_in number_said class statements K5;
-  length = option_map as_length (value_in length_said class statements K8);
+  owner = option_map as_id (value_in id_said class statements property.conducting_equipment);
+  node = option_map as_id (value_in id_said class statements property.connectivity_node);
+  phases = value_in code_said class statements property.phases;
+  number = value_in number_said class statements property.sequence_number;
+  length = option_map as_length (value_in length_said class statements property.conductor_length);
   is_open = open_in class statements;
   equipment = option_map as_id (equipment_in class statements);
   phase = phase_in class statements;

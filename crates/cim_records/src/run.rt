@@ -35,7 +35,7 @@ fn class_in(statements: &About<'_>) -> Option<Class>
     ensures { result ≡ spec.class_said statements.now }
 {
     for statement in statements.again() {
-        if !is_by(KnownProp::K1, statement) {
+        if !is_by(KnownProp::RDF_TYPE, statement) {
             continue;
         }
         if let Some(class) = class_of(&statement.object) {
@@ -64,11 +64,11 @@ impl<'a> Run<'a> {
     {
         Subject {
             class: self.class,
-            owner: self.id(KnownProp::K2),
-            node: self.id(KnownProp::K3),
-            phases: self.code(KnownProp::K4),
-            number: self.number(KnownProp::K5),
-            length: self.length(KnownProp::K8),
+            owner: self.id(KnownProp::CONDUCTING_EQUIPMENT),
+            node: self.id(KnownProp::CONNECTIVITY_NODE),
+            phases: self.code(KnownProp::PHASES),
+            number: self.number(KnownProp::SEQUENCE_NUMBER),
+            length: self.length(KnownProp::CONDUCTOR_LENGTH),
             is_open: self.is_open(),
             equipment: self.equipment(),
             phase: self.phase(),
@@ -82,41 +82,41 @@ impl<'a> Run<'a> {
         ensures { result ≡ spec.open_in self.now.class self.now.statements }
     {
         let is_cut = self.class.is_some_and(Class::is_cut);
-        let normally = self.truth(KnownProp::K6).unwrap_or(is_cut);
-        self.truth(KnownProp::K7).unwrap_or(normally)
+        let normally = self.truth(KnownProp::NORMAL_OPEN).unwrap_or(is_cut);
+        self.truth(KnownProp::SWITCH_OPEN).unwrap_or(normally)
     }
 
     /// The equipment that a phase object names.
     fn equipment(&self) -> Option<Id>
         ensures { result ≡ option_map as_id (spec.equipment_in self.now.class self.now.statements) }
     {
-        self.id(KnownProp::K13)
-            .or(self.id(KnownProp::K15))
-            .or(self.id(KnownProp::K17))
+        self.id(KnownProp::SEGMENT_OF_PHASE)
+            .or(self.id(KnownProp::CONSUMER_OF_PHASE))
+            .or(self.id(KnownProp::SWITCH_OF_PHASE))
     }
 
     /// The phase that a phase object states.
     fn phase(&self) -> Option<PhaseSet>
         ensures { result ≡ spec.phase_in self.now.class self.now.statements }
     {
-        self.kind(KnownProp::K14)
-            .or(self.kind(KnownProp::K16))
-            .or(self.kind(KnownProp::K19))
+        self.kind(KnownProp::SEGMENT_PHASE)
+            .or(self.kind(KnownProp::CONSUMER_PHASE))
+            .or(self.kind(KnownProp::PHASE_SIDE_1))
     }
 
     /// The segment of a clamp or a cut.
     fn segment(&self) -> Option<Id>
         ensures { result ≡ option_map as_id (spec.segment_in self.now.class self.now.statements) }
     {
-        self.id(KnownProp::K9).or(self.id(KnownProp::K11))
+        self.id(KnownProp::CLAMP_SEGMENT).or(self.id(KnownProp::CUT_SEGMENT))
     }
 
     /// How far a clamp or a cut is from its segment's terminal 1: as stated, else at it.
     fn mark_length(&self) -> Length
         ensures { result ≡ as_length (spec.mark_length_in self.now.class self.now.statements) }
     {
-        self.length(KnownProp::K10)
-            .or(self.length(KnownProp::K12))
+        self.length(KnownProp::CLAMP_LENGTH)
+            .or(self.length(KnownProp::CUT_LENGTH))
             .unwrap_or(Length { mm: 0 })
     }
 

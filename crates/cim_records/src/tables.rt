@@ -144,9 +144,9 @@ fn phases(
     ensures { IfOk result (HoldsPhases statements.now) }
 {
     let mut phases = PartPhases::empty(alloc);
-    phases.gather(KnownProp::K13, subjects, statements)?;
-    phases.gather(KnownProp::K15, subjects, statements)?;
-    phases.gather(KnownProp::K17, subjects, statements)?;
+    phases.gather(KnownProp::SEGMENT_OF_PHASE, subjects, statements)?;
+    phases.gather(KnownProp::CONSUMER_OF_PHASE, subjects, statements)?;
+    phases.gather(KnownProp::SWITCH_OF_PHASE, subjects, statements)?;
     Ok(phases)
 }
 

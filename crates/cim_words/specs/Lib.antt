@@ -3,7 +3,9 @@ pub mod Groups
 pub mod Held
 pub mod IdText
 pub mod KnownProp
+pub mod Properties
 pub mod Length
+pub mod Limits
 pub mod Object
 pub mod Order
 pub mod PhaseNames

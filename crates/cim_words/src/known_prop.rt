@@ -51,6 +51,50 @@ pub enum KnownProp {
     K20,
 }
 
+/// The properties by words of the standard, one for each row of the table.
+impl KnownProp {
+    /// The class of a subject, `rdf:type`.
+    pub const RDF_TYPE: KnownProp = KnownProp::K1;
+    /// `Terminal.ConductingEquipment`.
+    pub const CONDUCTING_EQUIPMENT: KnownProp = KnownProp::K2;
+    /// `Terminal.ConnectivityNode`.
+    pub const CONNECTIVITY_NODE: KnownProp = KnownProp::K3;
+    /// `Terminal.phases`.
+    pub const PHASES: KnownProp = KnownProp::K4;
+    /// `ACDCTerminal.sequenceNumber`.
+    pub const SEQUENCE_NUMBER: KnownProp = KnownProp::K5;
+    /// `Switch.normalOpen`.
+    pub const NORMAL_OPEN: KnownProp = KnownProp::K6;
+    /// `Switch.open`.
+    pub const SWITCH_OPEN: KnownProp = KnownProp::K7;
+    /// `Conductor.length`.
+    pub const CONDUCTOR_LENGTH: KnownProp = KnownProp::K8;
+    /// `Clamp.ACLineSegment`.
+    pub const CLAMP_SEGMENT: KnownProp = KnownProp::K9;
+    /// `Clamp.lengthFromTerminal1`.
+    pub const CLAMP_LENGTH: KnownProp = KnownProp::K10;
+    /// `Cut.ACLineSegment`.
+    pub const CUT_SEGMENT: KnownProp = KnownProp::K11;
+    /// `Cut.lengthFromTerminal1`.
+    pub const CUT_LENGTH: KnownProp = KnownProp::K12;
+    /// `ACLineSegmentPhase.ACLineSegment`.
+    pub const SEGMENT_OF_PHASE: KnownProp = KnownProp::K13;
+    /// `ACLineSegmentPhase.phase`.
+    pub const SEGMENT_PHASE: KnownProp = KnownProp::K14;
+    /// `EnergyConsumerPhase.EnergyConsumer`.
+    pub const CONSUMER_OF_PHASE: KnownProp = KnownProp::K15;
+    /// `EnergyConsumerPhase.phase`.
+    pub const CONSUMER_PHASE: KnownProp = KnownProp::K16;
+    /// `SwitchPhase.Switch`.
+    pub const SWITCH_OF_PHASE: KnownProp = KnownProp::K17;
+    /// `SwitchPhase.closed`.
+    pub const SWITCH_PHASE_CLOSED: KnownProp = KnownProp::K18;
+    /// `SwitchPhase.phaseSide1`.
+    pub const PHASE_SIDE_1: KnownProp = KnownProp::K19;
+    /// `SwitchPhase.phaseSide2`.
+    pub const PHASE_SIDE_2: KnownProp = KnownProp::K20;
+}
+
 /// Every known property.
 pub const KNOWN_PROPS: [KnownProp; 20] = [
     KnownProp::K1,

@@ -70,5 +70,5 @@ pub(crate) fn set_of(alloc: Global, groups: &[&[Row]]) -> Result<StatementSet, S
     for rows in groups {
         append(&mut statements, rows)?;
     }
-    StatementSet::from_list(Statements::of(statements))
+    StatementSet::from_list(alloc, Statements::of(statements))
 }

@@ -13,37 +13,37 @@ use std::test::Fail;
 
 /// A segment 10 of nine metres with terminals 1 and 2, a clamp 12 at five and a cut 13 at seven, and a consumer 11 at a node 20.
 const NETWORK: [Row; 27] = [
-    (10, KnownProp::K1, SEGMENT),
-    (10, KnownProp::K8, Said::Text("9")),
-    (1, KnownProp::K1, TERMINAL),
-    (1, KnownProp::K2, Said::Id(10)),
-    (1, KnownProp::K3, Said::Id(20)),
-    (1, KnownProp::K5, Said::Text("1")),
-    (2, KnownProp::K1, TERMINAL),
-    (2, KnownProp::K2, Said::Id(10)),
-    (2, KnownProp::K5, Said::Text("2")),
-    (20, KnownProp::K1, NODE),
-    (11, KnownProp::K1, CONSUMER),
-    (3, KnownProp::K1, TERMINAL),
-    (3, KnownProp::K2, Said::Id(11)),
-    (3, KnownProp::K3, Said::Id(20)),
-    (12, KnownProp::K1, CLAMP),
-    (12, KnownProp::K9, Said::Id(10)),
-    (12, KnownProp::K10, Said::Text("5")),
-    (4, KnownProp::K1, TERMINAL),
-    (4, KnownProp::K2, Said::Id(12)),
-    (13, KnownProp::K1, CUT),
-    (13, KnownProp::K11, Said::Id(10)),
-    (13, KnownProp::K12, Said::Text("7")),
-    (5, KnownProp::K1, TERMINAL),
-    (5, KnownProp::K2, Said::Id(13)),
-    (5, KnownProp::K5, Said::Text("1")),
-    (6, KnownProp::K1, TERMINAL),
-    (6, KnownProp::K2, Said::Id(13)),
+    (10, KnownProp::RDF_TYPE, SEGMENT),
+    (10, KnownProp::CONDUCTOR_LENGTH, Said::Text("9")),
+    (1, KnownProp::RDF_TYPE, TERMINAL),
+    (1, KnownProp::CONDUCTING_EQUIPMENT, Said::Id(10)),
+    (1, KnownProp::CONNECTIVITY_NODE, Said::Id(20)),
+    (1, KnownProp::SEQUENCE_NUMBER, Said::Text("1")),
+    (2, KnownProp::RDF_TYPE, TERMINAL),
+    (2, KnownProp::CONDUCTING_EQUIPMENT, Said::Id(10)),
+    (2, KnownProp::SEQUENCE_NUMBER, Said::Text("2")),
+    (20, KnownProp::RDF_TYPE, NODE),
+    (11, KnownProp::RDF_TYPE, CONSUMER),
+    (3, KnownProp::RDF_TYPE, TERMINAL),
+    (3, KnownProp::CONDUCTING_EQUIPMENT, Said::Id(11)),
+    (3, KnownProp::CONNECTIVITY_NODE, Said::Id(20)),
+    (12, KnownProp::RDF_TYPE, CLAMP),
+    (12, KnownProp::CLAMP_SEGMENT, Said::Id(10)),
+    (12, KnownProp::CLAMP_LENGTH, Said::Text("5")),
+    (4, KnownProp::RDF_TYPE, TERMINAL),
+    (4, KnownProp::CONDUCTING_EQUIPMENT, Said::Id(12)),
+    (13, KnownProp::RDF_TYPE, CUT),
+    (13, KnownProp::CUT_SEGMENT, Said::Id(10)),
+    (13, KnownProp::CUT_LENGTH, Said::Text("7")),
+    (5, KnownProp::RDF_TYPE, TERMINAL),
+    (5, KnownProp::CONDUCTING_EQUIPMENT, Said::Id(13)),
+    (5, KnownProp::SEQUENCE_NUMBER, Said::Text("1")),
+    (6, KnownProp::RDF_TYPE, TERMINAL),
+    (6, KnownProp::CONDUCTING_EQUIPMENT, Said::Id(13)),
 ];
 
 /// The number of the cut's second terminal.
-const NUMBERED: Row = (6, KnownProp::K5, Said::Text("2"));
+const NUMBERED: Row = (6, KnownProp::SEQUENCE_NUMBER, Said::Text("2"));
 
 /// The rule and the subject of the first fault.
 fn fault(alloc: Global, set: &StatementSet) -> Result<Option<(u8, u128)>, NoMemory> {
@@ -63,65 +63,65 @@ type Case = (&'static [Row], Option<(u8, u128)>);
 
 const CLASSES_AND_OWNERS: [Case; 13] = [
     (&[], None),
-    (&[(10, KnownProp::K1, HOUSE)], Some((1, 10))),
+    (&[(10, KnownProp::RDF_TYPE, HOUSE)], Some((1, 10))),
     (
         &[
-            (30, KnownProp::K1, HOUSE),
-            (30, KnownProp::K1, Said::Text("x")),
+            (30, KnownProp::RDF_TYPE, HOUSE),
+            (30, KnownProp::RDF_TYPE, Said::Text("x")),
         ],
         None,
     ),
     (
         &[
-            (7, KnownProp::K1, TERMINAL),
-            (7, KnownProp::K2, Said::Id(31)),
-            (31, KnownProp::K8, Said::Text("1")),
+            (7, KnownProp::RDF_TYPE, TERMINAL),
+            (7, KnownProp::CONDUCTING_EQUIPMENT, Said::Id(31)),
+            (31, KnownProp::CONDUCTOR_LENGTH, Said::Text("1")),
         ],
         Some((1, 31)),
     ),
     (
         &[
-            (7, KnownProp::K1, TERMINAL),
-            (7, KnownProp::K2, Said::Id(31)),
+            (7, KnownProp::RDF_TYPE, TERMINAL),
+            (7, KnownProp::CONDUCTING_EQUIPMENT, Said::Id(31)),
         ],
         Some((4, 7)),
     ),
     (
         &[
-            (30, KnownProp::K1, HOUSE),
-            (30, KnownProp::K1, Said::Name("http://example.org/Hut")),
-            (30, KnownProp::K1, TERMINAL),
+            (30, KnownProp::RDF_TYPE, HOUSE),
+            (30, KnownProp::RDF_TYPE, Said::Name("http://example.org/Hut")),
+            (30, KnownProp::RDF_TYPE, TERMINAL),
         ],
         Some((1, 30)),
     ),
-    (&[(1, KnownProp::K5, Said::Text("2"))], Some((2, 1))),
+    (&[(1, KnownProp::SEQUENCE_NUMBER, Said::Text("2"))], Some((2, 1))),
     (
         &[
-            (0, KnownProp::K1, CLAMP),
-            (1, KnownProp::K5, Said::Text("2")),
+            (0, KnownProp::RDF_TYPE, CLAMP),
+            (1, KnownProp::SEQUENCE_NUMBER, Said::Text("2")),
         ],
         Some((2, 1)),
     ),
     (
         &[
-            (20, KnownProp::K5, Said::Text("1")),
-            (20, KnownProp::K5, Said::Text("2")),
+            (20, KnownProp::SEQUENCE_NUMBER, Said::Text("1")),
+            (20, KnownProp::SEQUENCE_NUMBER, Said::Text("2")),
         ],
         None,
     ),
-    (&[(7, KnownProp::K1, TERMINAL)], Some((3, 7))),
-    (&[(32, KnownProp::K1, CLAMP)], Some((3, 32))),
+    (&[(7, KnownProp::RDF_TYPE, TERMINAL)], Some((3, 7))),
+    (&[(32, KnownProp::RDF_TYPE, CLAMP)], Some((3, 32))),
     (
         &[
-            (7, KnownProp::K1, TERMINAL),
-            (7, KnownProp::K2, Said::Id(20)),
+            (7, KnownProp::RDF_TYPE, TERMINAL),
+            (7, KnownProp::CONDUCTING_EQUIPMENT, Said::Id(20)),
         ],
         Some((4, 7)),
     ),
     (
         &[
-            (7, KnownProp::K1, TERMINAL),
-            (7, KnownProp::K2, Said::Id(10)),
+            (7, KnownProp::RDF_TYPE, TERMINAL),
+            (7, KnownProp::CONDUCTING_EQUIPMENT, Said::Id(10)),
         ],
         Some((5, 10)),
     ),
@@ -130,41 +130,41 @@ const CLASSES_AND_OWNERS: [Case; 13] = [
 const NUMBERS_AND_FORMS: [Case; 6] = [
     (
         &[
-            (40, KnownProp::K1, SEGMENT),
-            (7, KnownProp::K1, TERMINAL),
-            (7, KnownProp::K2, Said::Id(40)),
-            (8, KnownProp::K1, TERMINAL),
-            (8, KnownProp::K2, Said::Id(40)),
+            (40, KnownProp::RDF_TYPE, SEGMENT),
+            (7, KnownProp::RDF_TYPE, TERMINAL),
+            (7, KnownProp::CONDUCTING_EQUIPMENT, Said::Id(40)),
+            (8, KnownProp::RDF_TYPE, TERMINAL),
+            (8, KnownProp::CONDUCTING_EQUIPMENT, Said::Id(40)),
         ],
         None,
     ),
     (
         &[
-            (40, KnownProp::K1, SEGMENT),
-            (7, KnownProp::K1, TERMINAL),
-            (7, KnownProp::K2, Said::Id(40)),
-            (7, KnownProp::K5, Said::Text("1")),
-            (8, KnownProp::K1, TERMINAL),
-            (8, KnownProp::K2, Said::Id(40)),
-            (8, KnownProp::K5, Said::Text("1")),
+            (40, KnownProp::RDF_TYPE, SEGMENT),
+            (7, KnownProp::RDF_TYPE, TERMINAL),
+            (7, KnownProp::CONDUCTING_EQUIPMENT, Said::Id(40)),
+            (7, KnownProp::SEQUENCE_NUMBER, Said::Text("1")),
+            (8, KnownProp::RDF_TYPE, TERMINAL),
+            (8, KnownProp::CONDUCTING_EQUIPMENT, Said::Id(40)),
+            (8, KnownProp::SEQUENCE_NUMBER, Said::Text("1")),
         ],
         Some((6, 40)),
     ),
     (
         &[
-            (50, KnownProp::K1, SEGMENT_PHASE),
-            (50, KnownProp::K13, Said::Id(10)),
-            (50, KnownProp::K14, KIND_A),
+            (50, KnownProp::RDF_TYPE, SEGMENT_PHASE),
+            (50, KnownProp::SEGMENT_OF_PHASE, Said::Id(10)),
+            (50, KnownProp::SEGMENT_PHASE, KIND_A),
         ],
         None,
     ),
     (
         &[
-            (50, KnownProp::K1, SEGMENT_PHASE),
-            (50, KnownProp::K13, Said::Id(10)),
+            (50, KnownProp::RDF_TYPE, SEGMENT_PHASE),
+            (50, KnownProp::SEGMENT_OF_PHASE, Said::Id(10)),
             (
                 50,
-                KnownProp::K14,
+                KnownProp::SEGMENT_PHASE,
                 Said::Name("http://iec.ch/TC57/CIM100#SinglePhaseKind.s12"),
             ),
         ],
@@ -172,19 +172,19 @@ const NUMBERS_AND_FORMS: [Case; 6] = [
     ),
     (
         &[
-            (51, KnownProp::K1, SWITCH_PHASE),
-            (51, KnownProp::K17, Said::Id(13)),
-            (51, KnownProp::K19, KIND_A),
-            (51, KnownProp::K20, KIND_A),
+            (51, KnownProp::RDF_TYPE, SWITCH_PHASE),
+            (51, KnownProp::SWITCH_OF_PHASE, Said::Id(13)),
+            (51, KnownProp::PHASE_SIDE_1, KIND_A),
+            (51, KnownProp::PHASE_SIDE_2, KIND_A),
         ],
         None,
     ),
     (
         &[
-            (51, KnownProp::K1, SWITCH_PHASE),
-            (51, KnownProp::K17, Said::Id(13)),
-            (51, KnownProp::K19, KIND_A),
-            (51, KnownProp::K20, KIND_B),
+            (51, KnownProp::RDF_TYPE, SWITCH_PHASE),
+            (51, KnownProp::SWITCH_OF_PHASE, Said::Id(13)),
+            (51, KnownProp::PHASE_SIDE_1, KIND_A),
+            (51, KnownProp::PHASE_SIDE_2, KIND_B),
         ],
         Some((10, 51)),
     ),
@@ -210,11 +210,11 @@ fn numbers_and_forms(rt: HostRuntime) -> Result<(), Fail> {
 /// A clamp 32 with a terminal 7 on the segment of the network, at a length.
 fn clamp_at(length: &'static str) -> [Row; 5] {
     [
-        (32, KnownProp::K1, CLAMP),
-        (32, KnownProp::K9, Said::Id(10)),
-        (32, KnownProp::K10, Said::Text(length)),
-        (7, KnownProp::K1, TERMINAL),
-        (7, KnownProp::K2, Said::Id(32)),
+        (32, KnownProp::RDF_TYPE, CLAMP),
+        (32, KnownProp::CLAMP_SEGMENT, Said::Id(10)),
+        (32, KnownProp::CLAMP_LENGTH, Said::Text(length)),
+        (7, KnownProp::RDF_TYPE, TERMINAL),
+        (7, KnownProp::CONDUCTING_EQUIPMENT, Said::Id(32)),
     ]
 }
 
@@ -243,21 +243,21 @@ fn crowd(alloc: Global, count: u32, at_node: bool) -> Result<StatementSet, SetRe
     let mut statements = Vec::new(alloc);
     append(
         &mut statements,
-        &[(20, KnownProp::K1, NODE), (60, KnownProp::K1, HOUSE)],
+        &[(20, KnownProp::RDF_TYPE, NODE), (60, KnownProp::RDF_TYPE, HOUSE)],
     )?;
     for i in 1000..1000 + u128::from(count) {
         let house = if at_node { 10_000 + i } else { 60 };
         append(
             &mut statements,
             &[
-                (i, KnownProp::K1, TERMINAL),
-                (i, KnownProp::K2, Said::Id(house)),
-                (i, KnownProp::K3, Said::Id(20)),
-                (house, KnownProp::K1, HOUSE),
+                (i, KnownProp::RDF_TYPE, TERMINAL),
+                (i, KnownProp::CONDUCTING_EQUIPMENT, Said::Id(house)),
+                (i, KnownProp::CONNECTIVITY_NODE, Said::Id(20)),
+                (house, KnownProp::RDF_TYPE, HOUSE),
             ],
         )?;
     }
-    StatementSet::from_list(Statements::of(statements))
+    StatementSet::from_list(alloc, Statements::of(statements))
 }
 
 #[test]
@@ -284,14 +284,14 @@ fn clamps(alloc: Global, count: u32) -> Result<StatementSet, SetRefusal> {
         append(
             &mut statements,
             &[
-                (i, KnownProp::K1, CLAMP),
-                (i, KnownProp::K9, Said::Id(10)),
-                (10_000 + i, KnownProp::K1, TERMINAL),
-                (10_000 + i, KnownProp::K2, Said::Id(i)),
+                (i, KnownProp::RDF_TYPE, CLAMP),
+                (i, KnownProp::CLAMP_SEGMENT, Said::Id(10)),
+                (10_000 + i, KnownProp::RDF_TYPE, TERMINAL),
+                (10_000 + i, KnownProp::CONDUCTING_EQUIPMENT, Said::Id(i)),
             ],
         )?;
     }
-    StatementSet::from_list(Statements::of(statements))
+    StatementSet::from_list(alloc, Statements::of(statements))
 }
 
 #[test]

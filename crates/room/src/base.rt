@@ -18,7 +18,7 @@ pub(crate) fn read_base(alloc: Global, bytes: Vec<u8>) -> Result<StatementSet, S
     let statements = read_document(alloc, &bytes)?;
     // The bytes are let go before the statements are put in order.
     drop(bytes);
-    let set = StatementSet::from_list(statements)?;
+    let set = StatementSet::from_list(alloc, statements)?;
     match first_break(alloc, &set)? {
         None => Ok(set),
         Some(Break { rule, subject }) => Err(Status::Profile { rule, subject }),

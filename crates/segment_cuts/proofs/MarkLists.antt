@@ -5,6 +5,7 @@ use Rattle.std.proofs.lemmas.Bool.{cases_lt}
 use Rattle.std.proofs.lemmas.Bool.Decides.{nat_tests}
 use Rattle.std.proofs.lemmas.List.{get_or_default}
 use Rattle.std.proofs.lemmas.List.Elements.{All-contains}
+use Rattle.cim_words.specs.Limits.{most_length}
 use Rattle.cim_words.specs.declared.identifier.Id.{Id}
 use Rattle.segment_cuts.specs.declared.mark.Mark.{Mark}
 use Rattle.segment_cuts.specs.declared.mark.Spot.{Spot}
@@ -59,8 +60,8 @@ length_is marks are m here = subst (λ (n : Mark). length_of marks n.id ≡ n.le
 pub length_of_mark : (marks : List Mark) → AreMarks marks → (id : Id) (m : Mark) → Contains marks m → m.id ≡ id → length_of marks id ≡ m.length.mm
 length_of_mark marks are id m here same = ap (length_of marks) (sym same) ∙ length_is marks are m here
 
-pub length_within : (marks : List Mark) → AreMarks marks → (m : Mark) → Contains marks m → m.length.mm ≤ 1000000000000
-length_within marks are m here = All-contains (λ (n : Mark). n.length.mm ≤ 1000000000000) marks m are.within here
+pub length_within : (marks : List Mark) → AreMarks marks → (m : Mark) → Contains marks m → m.length.mm ≤ most_length
+length_within marks are m here = All-contains (λ (n : Mark). n.length.mm ≤ most_length) marks m are.within here
 
 -- ---- marks at one length
 
@@ -82,7 +83,7 @@ one_cut_there marks are m n here there cut same = cases (any_two (λ (a b : Mark
 
 at_cut : (marks : List Mark) → AreMarks marks → (m : Mark) → Contains marks m → m.divides ≡ true → (s : Spot) → IsOn marks s → number marks s ≡ cut_number m → ⊥
 at_cut marks are m here cut EndOne on is = omega arith
-at_cut marks are m here cut EndTwo on is = let within : m.length.mm ≤ 1000000000000 = length_within marks are m here in omega arith
+at_cut marks are m here cut EndTwo on is = let within : m.length.mm ≤ most_length = length_within marks are m here in omega arith
 at_cut marks are m here cut (CutOne id) on is = omega arith
 at_cut marks are m here cut (CutTwo id) on is = omega arith
 at_cut marks are m here cut (Clamp id) on is =

@@ -11,6 +11,7 @@ use Rattle.std.proofs.lemmas.List.Elements.{All-nil, All-cons, All-append, All-c
 use Rattle.std.proofs.lemmas.List.Sorted.{All-permutation, Contains-permutation, sorted_far, ranks_by}
 use Rattle.std.proofs.lemmas.Cmp.{nat_cmp_total, on_total, then_total}
 use Rattle.std.proofs.lemmas.Map.Keys.{IsDistinct-cons, IsDistinct-IsPermutation, apart_from_distinct}
+use Rattle.cim_words.specs.Limits.{most_length}
 use Rattle.cim_words.specs.declared.identifier.Id.{Id}
 use Rattle.segment_cuts.specs.declared.mark.Mark.{Mark}
 use Rattle.segment_cuts.specs.declared.mark.Spot.{Spot}
@@ -140,7 +141,7 @@ apart_marks (m ∷ ms) different =
 abbrev IsInside : Placed → Type 0
 IsInside p = (0 < p.number) × (p.number < 3000000000004)
 
-inside_mark : (m : Mark) → m.length.mm ≤ 1000000000000 → (b : Bool) → All IsInside (cond b (placed_at m 1 (CutOne m.id) ∷ placed_at m 3 (CutTwo m.id) ∷ []) (placed_at m 2 (Clamp m.id) ∷ []))
+inside_mark : (m : Mark) → m.length.mm ≤ most_length → (b : Bool) → All IsInside (cond b (placed_at m 1 (CutOne m.id) ∷ placed_at m 3 (CutTwo m.id) ∷ []) (placed_at m 2 (Clamp m.id) ∷ []))
 inside_mark m within true = two_items IsInside (placed_at m 1 (CutOne m.id)) (placed_at m 3 (CutTwo m.id)) (omega arith, omega arith) (omega arith, omega arith)
 inside_mark m within false = one_item IsInside (placed_at m 2 (Clamp m.id)) (omega arith, omega arith)
 

@@ -1,6 +1,7 @@
 -- The sections of a line segment, of this project: cuts divide it and clamps do not (IEC 61970-301 has Cut and Clamp).
 use Rattle.std.specs.Prelude.{ℕ, ◌≡◌, ◌<◌, ◌≤◌, ◌+◌, ◌*◌, ◌==◌, ◌&&◌, ◌⊎◌, ◌↔◌, nat_lt, Bool, true, false, cond, List, [], ◌∷◌, length, Contains}
 use Rattle.std.specs.List.{All, AllPairs, flat_map, count_by}
+use Rattle.cim_words.specs.Limits.{most_length, most_marks}
 use Rattle.cim_words.specs.declared.identifier.Id.{Id}
 use Rattle.segment_cuts.specs.declared.mark.Mark.{Mark}
 use Rattle.segment_cuts.specs.declared.mark.Spot.{Spot}
@@ -8,8 +9,8 @@ use Rattle.segment_cuts.specs.declared.mark.Spot.TheVariants.{EndOne, EndTwo, Cl
 
 -- the marks of a segment: not too many, none too far, each with an identifier of its own, and no cut at the length of another mark
 pub record AreMarks (marks : List Mark) : Type 0 where
-  pub few : length marks ≤ 256
-  pub within : All (λ (m : Mark). m.length.mm ≤ 1000000000000) marks
+  pub few : length marks ≤ most_marks
+  pub within : All (λ (m : Mark). m.length.mm ≤ most_length) marks
   pub different : AllPairs (λ (m n : Mark). ¬ (m.id ≡ n.id)) marks
   pub apart : AllPairs (λ (m n : Mark). m.length ≡ n.length → (m.divides ≡ false) × (n.divides ≡ false)) marks
 
@@ -33,7 +34,7 @@ length_of (m ∷ ms) id = cond (m.id.number == id.number) m.length.mm (length_of
 -- spots have ascending numbers from terminal 1 to terminal 2, and a cut's own number stands between those of its sides
 abbrev pub number : List Mark → Spot → ℕ
 number marks EndOne = 0
-number marks EndTwo = 3000000000004
+number marks EndTwo = 3 * most_length + 4
 number marks (Clamp id) = 3 * length_of marks id + 2
 number marks (CutOne id) = 3 * length_of marks id + 1
 number marks (CutTwo id) = 3 * length_of marks id + 3

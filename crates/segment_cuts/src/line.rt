@@ -2,19 +2,20 @@
 
 ghost use Rattle.std.specs.Prelude.{◌≡◌, ◌++◌, ◌≤◌, IfOk, OnOk};
 ghost use Rattle.std.specs.List.{All, flat_map};
+ghost use Rattle.cim_words.specs.Limits.{most_length};
 ghost use Rattle.segment_cuts.specs.Sections.{AreMarks};
 ghost use Rattle.segment_cuts.specs.Line.{IsLine, spots, placed_at, placed_of};
 ghost use Rattle.segment_cuts.specs.declared.mark.Mark.{Mark};
 
 use crate::mark::{Mark, Spot};
-use cim_words::{Id, NoMemory};
+use cim_words::{Id, MOST_LENGTH, NoMemory};
 use std::alloc::Global;
 
 /// The number of terminal 1.
 pub(crate) const FIRST_NUMBER: u64 = 0;
 
 /// The number of terminal 2, which is greater than any other.
-pub(crate) const LAST_NUMBER: u64 = 3_000_000_000_004;
+pub(crate) const LAST_NUMBER: u64 = 3 * MOST_LENGTH + 4;
 
 /// How far the numbers of a cut's sides, of a clamp and of a cut are above three times their length.
 pub(crate) const SIDE_ONE: u64 = 1;
@@ -46,7 +47,7 @@ impl Placed {
     /// A spot of a mark.
     fn of(mark: &Mark, offset: u64, spot: Spot) -> Placed
         requires near { offset ≤ 3 }
-        requires within { mark.now.length.mm ≤ 1000000000000 }
+        requires within { mark.now.length.mm ≤ most_length }
         ensures { result ≡ placed_at mark.now offset spot }
     {
         Placed {
@@ -72,7 +73,7 @@ pub(crate) fn line_of(alloc: Global, marks: &[Mark]) -> Result<Vec<Placed>, NoMe
 
 /// Adds the spots of some marks.
 fn add_marks(marks: &[Mark], line: &mut Vec<Placed>) -> Result<(), NoMemory>
-    requires { All (λ (m : Mark). m.length.mm ≤ 1000000000000) marks.now }
+    requires { All (λ (m : Mark). m.length.mm ≤ most_length) marks.now }
     ensures { OnOk result (line.new.items ≡ line.old.items ++ flat_map placed_of marks.now) }
 {
     for mark in marks {
@@ -83,7 +84,7 @@ fn add_marks(marks: &[Mark], line: &mut Vec<Placed>) -> Result<(), NoMemory>
 
 /// Adds the spots of a mark.
 fn add_spots(mark: &Mark, line: &mut Vec<Placed>) -> Result<(), NoMemory>
-    requires { mark.now.length.mm ≤ 1000000000000 }
+    requires { mark.now.length.mm ≤ most_length }
     ensures { OnOk result (line.new.items ≡ line.old.items ++ placed_of mark.now) }
 {
     if mark.divides {

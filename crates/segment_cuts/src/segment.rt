@@ -2,6 +2,7 @@
 
 ghost use Rattle.std.specs.Prelude.{◌≡◌, ◌≤◌, IfOk};
 ghost use Rattle.std.specs.List.{All};
+ghost use Rattle.cim_words.specs.Limits.{most_length};
 ghost use Rattle.segment_cuts.specs.Sections as spec;
 ghost use Rattle.segment_cuts.specs.Sections.{AreMarks, AreSections, IsOn, section_index};
 ghost use Rattle.segment_cuts.specs.declared.mark.Mark.{Mark};
@@ -42,7 +43,7 @@ pub fn section_of(marks: &[Mark], spot: Spot) -> usize
 
 /// The number of a cut.
 fn cut_number(cut: &Mark) -> u64
-    requires { cut.now.length.mm ≤ 1000000000000 }
+    requires { cut.now.length.mm ≤ most_length }
     ensures { result ≡ spec.cut_number cut.now }
 {
     3 * cut.length.mm + MIDDLE
@@ -50,7 +51,7 @@ fn cut_number(cut: &Mark) -> u64
 
 /// The number of a spot.
 fn number_of(marks: &[Mark], spot: Spot) -> u64
-    requires { All (λ (m : Mark). m.length.mm ≤ 1000000000000) marks.now }
+    requires { All (λ (m : Mark). m.length.mm ≤ most_length) marks.now }
     ensures { result ≡ spec.number marks.now spot }
 {
     match spot {
@@ -64,9 +65,9 @@ fn number_of(marks: &[Mark], spot: Spot) -> u64
 
 /// How far the mark with this identifier is from terminal 1.
 fn length_of(marks: &[Mark], id: Id) -> u64
-    requires { All (λ (m : Mark). m.length.mm ≤ 1000000000000) marks.now }
+    requires { All (λ (m : Mark). m.length.mm ≤ most_length) marks.now }
     ensures length { result ≡ spec.length_of marks.now id }
-    ensures within { result ≤ 1000000000000 }
+    ensures within { result ≤ most_length }
 {
     for mark in marks {
         if mark.id == id {

@@ -19,7 +19,7 @@ impl StatementSet {
         let mut all = Vec::new(alloc);
         append_copies(self.statements(), &mut all)?;
         append_copies(more.as_slice(), &mut all)?;
-        StatementSet::from_list(Statements::of(all))
+        StatementSet::from_list(alloc, Statements::of(all))
     }
 
     /// The set of those of these statements that are not among others.
@@ -29,6 +29,6 @@ impl StatementSet {
         let mut gone = Vec::new(alloc);
         append_copies(less.as_slice(), &mut gone)?;
         order_once(&mut gone);
-        StatementSet::of_ordered(copies_apart(alloc, self.statements(), &gone)?)
+        StatementSet::of_ordered(alloc, copies_apart(alloc, self.statements(), &gone)?)
     }
 }

@@ -8,6 +8,7 @@ ghost use Rattle.statement_set.specs.Set.{IsOrdered, most_statements};
 use crate::once::order_once;
 use crate::refusal::SetRefusal;
 use cim_words::{NoMemory, Statement, Statements};
+use std::alloc::Global;
 use std::marker::Model;
 use std::sync::Arc;
 
@@ -35,23 +36,25 @@ impl Model for StatementSet {
 
 impl StatementSet {
     /// The set of the statements in a list.
-    pub fn from_list(items: Statements) -> Result<StatementSet, SetRefusal>
+    pub fn from_list(alloc: Global, items: Statements) -> Result<StatementSet, SetRefusal>
         ensures { Gives (Contains items) result }
     {
         let mut statements = items.into_vec();
         order_once(&mut statements);
-        StatementSet::of_ordered(statements)
+        StatementSet::of_ordered(alloc, statements)
     }
 
     /// The set of the statements of an ordered vector, unless they are too many.
-    pub(crate) fn of_ordered(statements: Vec<Statement>) -> Result<StatementSet, SetRefusal>
+    pub(crate) fn of_ordered(
+        alloc: Global,
+        statements: Vec<Statement>,
+    ) -> Result<StatementSet, SetRefusal>
         requires { IsOrdered statements.items }
         ensures { Gives (Contains statements.items) result }
     {
         if statements.len() > MOST_STATEMENTS {
             return Err(SetRefusal::TooMany(statements.len() as u64));
         }
-        let alloc = *statements.allocator();
         match Arc::new(alloc, statements) {
             Ok(shared) => Ok(StatementSet { shared }),
             Err(_) => Err(SetRefusal::NoMemory),

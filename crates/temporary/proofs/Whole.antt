@@ -5,7 +5,7 @@ use Rattle.cim_words.specs.Groups.{is_segment}
 use Rattle.cim_words.specs.Phases.{has_no_phase}
 use Rattle.cim_words.specs.declared.phases.PhaseSet.{PhaseSet}
 use Rattle.cim_words.specs.declared.statement.Statement.{Statement}
-use Rattle.cim_model.specs.Limits.{most_at_place, most_length, most_marks}
+use Rattle.cim_words.specs.Limits.{most_at_place, most_length, most_marks}
 use Rattle.cim_model.specs.Live.{is_place, item_segment_number, terms_at}
 use Rattle.cim_model.specs.Marks.{marks_of, marks_on}
 use Rattle.cim_model.specs.Model.{is_of, is_subject}

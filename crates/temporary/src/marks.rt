@@ -2,7 +2,7 @@
 
 ghost use Rattle.std.specs.Prelude.{◌≡◌, length, nat_le};
 ghost use Rattle.std.specs.List.{filter, list_all};
-ghost use Rattle.cim_model.specs.Limits.{most_marks};
+ghost use Rattle.cim_words.specs.Limits.{most_marks};
 ghost use Rattle.cim_model.specs.Marks as spec;
 ghost use Rattle.cim_model.specs.Model.{is_of};
 ghost use Rattle.cim_words.specs.Groups as groups;
@@ -10,15 +10,9 @@ ghost use Rattle.temporary.specs.Parts as parts;
 
 use cim_model::item_mark;
 use cim_records::Index;
-use cim_words::{Id, Length};
+use cim_words::{Id, Length, MOST_LENGTH, MOST_MARKS};
 use room_words::{Overlay, TempItem};
 use segment_cuts::Mark;
-
-/// How many cuts and clamps a segment has at most.
-const MOST_MARKS: usize = 256;
-
-/// How far one may be from the segment's terminal 1, in millimetres.
-const MOST_LENGTH: u64 = 1_000_000_000_000;
 
 /// Whether this is a line segment that can have a mark at a length, and has not too many.
 pub(crate) fn bears(index: &Index, overlay: &Overlay, segment: Id, at: Length) -> bool

@@ -17,11 +17,8 @@ ghost use Rattle.temporary.specs.declared.items.Lost.{Lost};
 use crate::items::{Lost, does_stand, is_good};
 use cim_model::marks_divide_segments;
 use cim_records::Index;
-use cim_words::Id;
+use cim_words::{Id, MOST_ITEMS};
 use room_words::{Overlay, Position, TempItem, places_are_compared};
-
-/// How many items an overlay has at most.
-const MOST_ITEMS: usize = 4096;
 
 /// Whether an overlay stands on the model of an index. Each item is compared with each other one.
 pub fn overlay_stands(index: &Index, overlay: &Overlay) -> bool

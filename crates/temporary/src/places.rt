@@ -2,7 +2,7 @@
 
 ghost use Rattle.std.specs.Prelude.{◌≡◌, ◌+◌, length, nat_le, is_some};
 ghost use Rattle.std.specs.List.{filter, filter_map, list_any};
-ghost use Rattle.cim_model.specs.Limits.{most_at_place};
+ghost use Rattle.cim_words.specs.Limits.{most_at_place};
 ghost use Rattle.cim_model.specs.Live as live;
 ghost use Rattle.cim_model.specs.Model.{is_of};
 ghost use Rattle.cim_model.specs.Network.{owner_of};
@@ -13,11 +13,8 @@ ghost use Rattle.room_words.specs.Items.{makes};
 ghost use Rattle.temporary.specs.Parts as parts;
 
 use cim_records::Index;
-use cim_words::Id;
+use cim_words::{Id, MOST_AT_PLACE};
 use room_words::{Anchor, Overlay, TempItem, places_are_compared};
-
-/// How many terminals stand at a place at most.
-const MOST_AT_PLACE: usize = 1024;
 
 /// Whether an anchor is a place, and not too many terminals stand there.
 pub(crate) fn takes(index: &Index, overlay: &Overlay, place: Anchor) -> bool

@@ -69,41 +69,41 @@ const CLASSES: [(&str, Groups); 24] = [
 
 /// Each property but the type, which counts on all classes, and the class on which it counts, or `switch` for all switches.
 const PROPERTIES: [(KnownProp, &str, &str); 19] = [
-    (KnownProp::K2, "Terminal.ConductingEquipment", "Terminal"),
-    (KnownProp::K3, "Terminal.ConnectivityNode", "Terminal"),
-    (KnownProp::K4, "Terminal.phases", "Terminal"),
-    (KnownProp::K5, "ACDCTerminal.sequenceNumber", "Terminal"),
-    (KnownProp::K6, "Switch.normalOpen", "switch"),
-    (KnownProp::K7, "Switch.open", "switch"),
-    (KnownProp::K8, "Conductor.length", "ACLineSegment"),
-    (KnownProp::K9, "Clamp.ACLineSegment", "Clamp"),
-    (KnownProp::K10, "Clamp.lengthFromTerminal1", "Clamp"),
-    (KnownProp::K11, "Cut.ACLineSegment", "Cut"),
-    (KnownProp::K12, "Cut.lengthFromTerminal1", "Cut"),
+    (KnownProp::CONDUCTING_EQUIPMENT, "Terminal.ConductingEquipment", "Terminal"),
+    (KnownProp::CONNECTIVITY_NODE, "Terminal.ConnectivityNode", "Terminal"),
+    (KnownProp::PHASES, "Terminal.phases", "Terminal"),
+    (KnownProp::SEQUENCE_NUMBER, "ACDCTerminal.sequenceNumber", "Terminal"),
+    (KnownProp::NORMAL_OPEN, "Switch.normalOpen", "switch"),
+    (KnownProp::SWITCH_OPEN, "Switch.open", "switch"),
+    (KnownProp::CONDUCTOR_LENGTH, "Conductor.length", "ACLineSegment"),
+    (KnownProp::CLAMP_SEGMENT, "Clamp.ACLineSegment", "Clamp"),
+    (KnownProp::CLAMP_LENGTH, "Clamp.lengthFromTerminal1", "Clamp"),
+    (KnownProp::CUT_SEGMENT, "Cut.ACLineSegment", "Cut"),
+    (KnownProp::CUT_LENGTH, "Cut.lengthFromTerminal1", "Cut"),
     (
-        KnownProp::K13,
+        KnownProp::SEGMENT_OF_PHASE,
         "ACLineSegmentPhase.ACLineSegment",
         "ACLineSegmentPhase",
     ),
     (
-        KnownProp::K14,
+        KnownProp::SEGMENT_PHASE,
         "ACLineSegmentPhase.phase",
         "ACLineSegmentPhase",
     ),
     (
-        KnownProp::K15,
+        KnownProp::CONSUMER_OF_PHASE,
         "EnergyConsumerPhase.EnergyConsumer",
         "EnergyConsumerPhase",
     ),
     (
-        KnownProp::K16,
+        KnownProp::CONSUMER_PHASE,
         "EnergyConsumerPhase.phase",
         "EnergyConsumerPhase",
     ),
-    (KnownProp::K17, "SwitchPhase.Switch", "SwitchPhase"),
-    (KnownProp::K18, "SwitchPhase.closed", "SwitchPhase"),
-    (KnownProp::K19, "SwitchPhase.phaseSide1", "SwitchPhase"),
-    (KnownProp::K20, "SwitchPhase.phaseSide2", "SwitchPhase"),
+    (KnownProp::SWITCH_OF_PHASE, "SwitchPhase.Switch", "SwitchPhase"),
+    (KnownProp::SWITCH_PHASE_CLOSED, "SwitchPhase.closed", "SwitchPhase"),
+    (KnownProp::PHASE_SIDE_1, "SwitchPhase.phaseSide1", "SwitchPhase"),
+    (KnownProp::PHASE_SIDE_2, "SwitchPhase.phaseSide2", "SwitchPhase"),
 ];
 
 /// Other IRIs, which name neither a class nor a property of the profile.
@@ -199,8 +199,8 @@ fn is_named(alloc: Global, known: KnownProp, iri: &str) -> Result<bool, NoMemory
 #[test]
 fn properties_count_on_their_classes(rt: HostRuntime) -> Result<(), NoMemory> {
     let alloc = rt.alloc();
-    assert!(rt; is_named(alloc, KnownProp::K1, TYPE)?);
-    assert!(rt; counts_on_listed(alloc, KnownProp::K1, "", &CLASSES)?);
+    assert!(rt; is_named(alloc, KnownProp::RDF_TYPE, TYPE)?);
+    assert!(rt; counts_on_listed(alloc, KnownProp::RDF_TYPE, "", &CLASSES)?);
     for (known, name, on) in PROPERTIES {
         let iri = format!(in alloc; "{NAMESPACE}{name}")?;
         assert!(rt; is_named(alloc, known, &iri)?, "{name}");

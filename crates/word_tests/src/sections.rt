@@ -3,10 +3,11 @@
 ghost use Rattle.std.specs.Prelude.{◌≡◌, ◌≤◌, length, true, false};
 ghost use Rattle.std.specs.Bool.{OnTrue};
 ghost use Rattle.std.specs.List.{All, AllPairs};
+ghost use Rattle.cim_words.specs.Limits.{most_length};
 ghost use Rattle.segment_cuts.specs.Sections.{AreMarks, IsOn, HasMark};
 ghost use Rattle.segment_cuts.specs.declared.mark.Mark.{Mark};
 
-use cim_words::{Id, Length};
+use cim_words::{Id, Length, MOST_MARKS};
 use segment_cuts::{Mark, NoMemory, Section, Spot, section_of, sections};
 use std::alloc::Global;
 use std::test::Fail;
@@ -44,11 +45,11 @@ fn two(number: u8) -> Spot {
 fn are_marks(marks: &[Mark]) -> bool
     ensures { OnTrue result (AreMarks marks.now) }
 {
-    marks.len() <= 256 && are_near(marks) && are_apart(marks)
+    marks.len() <= MOST_MARKS && are_near(marks) && are_apart(marks)
 }
 
 fn are_near(marks: &[Mark]) -> bool
-    ensures { OnTrue result (All (λ (m : Mark). m.length.mm ≤ 1000000000000) marks.now) }
+    ensures { OnTrue result (All (λ (m : Mark). m.length.mm ≤ most_length) marks.now) }
 {
     marks.iter().all(|mark| mark.length.mm <= FARTHEST)
 }

@@ -25,7 +25,7 @@ fn listed(alloc: Global, rows: &[Row]) -> Result<Statements, NoMemory> {
 }
 
 fn set(alloc: Global, rows: &[Row]) -> Result<StatementSet, SetRefusal> {
-    StatementSet::from_list(listed(alloc, rows)?)
+    StatementSet::from_list(alloc, listed(alloc, rows)?)
 }
 
 fn shows(alloc: Global, statements: About<'_>, rows: &[Row]) -> Result<bool, NoMemory> {
@@ -115,7 +115,7 @@ fn goes_over_subjects(rt: HostRuntime) -> Result<(), Fail> {
 fn numbered(number: u32) -> Statement {
     Statement {
         subject: Id::of(u128::from(number)),
-        prop: Prop::Known(KnownProp::K2),
+        prop: Prop::Known(KnownProp::CONDUCTING_EQUIPMENT),
         object: Object::Id(Id::of(0)),
     }
 }
@@ -138,7 +138,7 @@ fn one(alloc: Global, number: u32) -> Result<Statements, NoMemory> {
 #[test]
 fn holds_a_million(rt: HostRuntime) -> Result<(), Fail> {
     let alloc = rt.alloc();
-    let most = StatementSet::from_list(many(alloc, 1_000_000)?)?;
+    let most = StatementSet::from_list(alloc, many(alloc, 1_000_000)?)?;
     assert_eq!(rt; most.len(), 1_000_000);
     assert_eq!(rt; most.with(alloc, &one(alloc, 999_999)?)?.len(), 1_000_000);
     let refused = most.with(alloc, &one(alloc, 1_000_000)?).err();
@@ -149,7 +149,7 @@ fn holds_a_million(rt: HostRuntime) -> Result<(), Fail> {
 #[test]
 fn holds_no_more(rt: HostRuntime) -> Result<(), Fail> {
     let alloc = rt.alloc();
-    let refused = StatementSet::from_list(many(alloc, 1_000_001)?).err();
+    let refused = StatementSet::from_list(alloc, many(alloc, 1_000_001)?).err();
     assert!(rt; refused == Some(SetRefusal::TooMany(1_000_001)));
     Ok(())
 }

@@ -242,7 +242,7 @@ fn plain_text(
     let Ok(statements) = read_document(alloc, base.as_bytes()) else {
         return Ok(Vec::new(alloc));
     };
-    let Ok(set) = StatementSet::from_list(statements) else {
+    let Ok(set) = StatementSet::from_list(alloc, statements) else {
         return Ok(Vec::new(alloc));
     };
     let mut statements = Vec::new(alloc);

@@ -47,7 +47,7 @@ fn id_said(statements: &[Statement], subject: Id, known: KnownProp) -> Option<Id
 }
 
 fn class_said(statements: &[Statement], subject: Id) -> Class {
-    match said(statements, subject, KnownProp::K1) {
+    match said(statements, subject, KnownProp::RDF_TYPE) {
         Some(Object::Name(name)) => Class::of_iri(name.text()),
         _ => Class::Other,
     }
@@ -77,9 +77,9 @@ fn kind_said(statements: &[Statement], subject: Id, known: KnownProp) -> Option<
 /// The phase that a subject states where it is a phase object of a piece of equipment.
 fn part_phase(statements: &[Statement], part: Id, equipment: Id) -> Option<PhaseSet> {
     let (names, states) = match class_said(statements, part) {
-        Class::ACLineSegmentPhase => (KnownProp::K13, KnownProp::K14),
-        Class::EnergyConsumerPhase => (KnownProp::K15, KnownProp::K16),
-        Class::SwitchPhase => (KnownProp::K17, KnownProp::K19),
+        Class::ACLineSegmentPhase => (KnownProp::SEGMENT_OF_PHASE, KnownProp::SEGMENT_PHASE),
+        Class::EnergyConsumerPhase => (KnownProp::CONSUMER_OF_PHASE, KnownProp::CONSUMER_PHASE),
+        Class::SwitchPhase => (KnownProp::SWITCH_OF_PHASE, KnownProp::PHASE_SIDE_1),
         _ => return None,
     };
     if id_said(statements, part, names)? != equipment {
@@ -100,10 +100,10 @@ fn part_phases(statements: &[Statement], equipment: Id) -> Option<PhaseSet> {
 }
 
 fn terminal_phases(statements: &[Statement], terminal: Id) -> PhaseSet {
-    if let Some(Object::Name(code)) = said(statements, terminal, KnownProp::K4) {
+    if let Some(Object::Name(code)) = said(statements, terminal, KnownProp::PHASES) {
         return PhaseSet::of_code_iri(code.text()).unwrap_or(PhaseSet::EMPTY);
     }
-    match id_said(statements, terminal, KnownProp::K2) {
+    match id_said(statements, terminal, KnownProp::CONDUCTING_EQUIPMENT) {
         Some(owner) => part_phases(statements, owner).unwrap_or(PhaseSet::ABC),
         None => PhaseSet::ABC,
     }
@@ -115,7 +115,7 @@ fn segment_phases(statements: &[Statement], segment: Id) -> PhaseSet {
     }
     let mut union = PhaseSet::EMPTY;
     for statement in statements {
-        if id_said(statements, statement.subject, KnownProp::K2) == Some(segment) {
+        if id_said(statements, statement.subject, KnownProp::CONDUCTING_EQUIPMENT) == Some(segment) {
             union = union.join(terminal_phases(statements, statement.subject));
         }
     }
@@ -125,8 +125,8 @@ fn segment_phases(statements: &[Statement], segment: Id) -> PhaseSet {
 /// Whether a piece of equipment passes a phase from terminal to terminal, transformers aside.
 fn passes(statements: &[Statement], equipment: Id, class: Class, phase: Phase) -> bool {
     if class.is_switch() {
-        let normally = is_said_true(statements, equipment, KnownProp::K6);
-        let now = is_said_true(statements, equipment, KnownProp::K7);
+        let normally = is_said_true(statements, equipment, KnownProp::NORMAL_OPEN);
+        let now = is_said_true(statements, equipment, KnownProp::SWITCH_OPEN);
         return !now.or(normally).unwrap_or(class.is_cut());
     }
     class.is_passing()
@@ -134,11 +134,11 @@ fn passes(statements: &[Statement], equipment: Id, class: Class, phase: Phase) -
 
 /// Whether a terminal is side 1 of what owns it: by its number, else as the one of lesser identifier.
 fn is_side_one(statements: &[Statement], owner: Id, terminal: Id) -> bool {
-    match said(statements, terminal, KnownProp::K5) {
+    match said(statements, terminal, KnownProp::SEQUENCE_NUMBER) {
         Some(Object::Text(text)) => text.text() == "1",
         _ => statements.iter().all(|statement| {
             statement.subject >= terminal
-                || id_said(statements, statement.subject, KnownProp::K2) != Some(owner)
+                || id_said(statements, statement.subject, KnownProp::CONDUCTING_EQUIPMENT) != Some(owner)
         }),
     }
 }
@@ -146,8 +146,8 @@ fn is_side_one(statements: &[Statement], owner: Id, terminal: Id) -> bool {
 /// The segment on which a cut or a clamp stands, and how far from terminal 1.
 fn mark_said(statements: &[Statement], mark: Id) -> Option<(Id, u64)> {
     let (names, length) = match class_said(statements, mark) {
-        Class::Cut => (KnownProp::K11, KnownProp::K12),
-        Class::Clamp => (KnownProp::K9, KnownProp::K10),
+        Class::Cut => (KnownProp::CUT_SEGMENT, KnownProp::CUT_LENGTH),
+        Class::Clamp => (KnownProp::CLAMP_SEGMENT, KnownProp::CLAMP_LENGTH),
         _ => return None,
     };
     let segment = id_said(statements, mark, names)?;
@@ -182,7 +182,7 @@ fn cuts_of(alloc: Global, statements: &[Statement]) -> Result<Vec<(Id, u64)>, No
     let mut cuts = Vec::new(alloc);
     for statement in statements {
         let mark = statement.subject;
-        if statement.prop != Prop::Known(KnownProp::K1) || !class_said(statements, mark).is_cut() {
+        if statement.prop != Prop::Known(KnownProp::RDF_TYPE) || !class_said(statements, mark).is_cut() {
             continue;
         }
         if let Some(cut) = mark_said(statements, mark) {
@@ -215,12 +215,12 @@ fn points(
     let mut points = Vec::new(alloc);
     for statement in statements {
         let terminal = statement.subject;
-        if statement.prop != Prop::Known(KnownProp::K1)
+        if statement.prop != Prop::Known(KnownProp::RDF_TYPE)
             || !class_said(statements, terminal).is_terminal()
         {
             continue;
         }
-        let owner = id_said(statements, terminal, KnownProp::K2);
+        let owner = id_said(statements, terminal, KnownProp::CONDUCTING_EQUIPMENT);
         let phases = terminal_phases(statements, terminal);
         for phase in PHASES {
             if !phases.has(phase) {
@@ -231,7 +231,7 @@ fn points(
                 terminal,
                 phase,
                 owner,
-                node: id_said(statements, terminal, KnownProp::K3),
+                node: id_said(statements, terminal, KnownProp::CONNECTIVITY_NODE),
                 class,
                 passes: owner.is_some_and(|owner| passes(statements, owner, class, phase)),
                 stand: owner.and_then(|owner| stand_of(statements, owner, terminal, phase)),
@@ -329,7 +329,7 @@ pub(crate) fn plain_rows(
     let mut rows = Vec::new(alloc);
     for statement in statements {
         let phases = reached_phases(&points, statement.subject);
-        if statement.prop == Prop::Known(KnownProp::K1) && !phases.is_empty() {
+        if statement.prop == Prop::Known(KnownProp::RDF_TYPE) && !phases.is_empty() {
             rows.push((statement.subject, phases))?;
         }
     }

@@ -1,6 +1,6 @@
 use Rattle.std.proofs.Common.{ℕ, List, length, nat_le, ap, ◌∙◌, arith}
 use Rattle.std.specs.List.{filter}
-use Rattle.cim_model.specs.Limits.{most_at_place}
+use Rattle.cim_words.specs.Limits.{most_at_place}
 use Rattle.room_words.specs.declared.items.TempItem.{TempItem}
 use Rattle.temporary.specs.Parts.{is_first_at, is_second_at}
 use Rattle.temporary.proofs.Counts.{terms_counted}

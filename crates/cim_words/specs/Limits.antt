@@ -8,6 +8,10 @@ most_marks = 256
 abbrev pub most_length : ℕ
 most_length = 1000000000000
 
+-- how many terminals equipment has at most that is no segment, no switch and not single
+abbrev pub most_terminals : ℕ
+most_terminals = 64
+
 -- how many terminals stand at a place at most
 abbrev pub most_at_place : ℕ
 most_at_place = 1024
