@@ -1,3 +1,4 @@
+pub mod Effects
 pub mod Links
 pub mod Live
 pub mod Marks
@@ -6,6 +7,7 @@ pub mod Network
 pub mod Phases
 pub mod Profile
 pub mod Reach
+pub mod Refusals
 pub mod Sections
 pub mod Stands
 pub mod Stated

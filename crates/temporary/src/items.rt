@@ -11,14 +11,7 @@ use crate::places::takes;
 use cim_model::marks_divide_segments;
 use cim_records::Index;
 use cim_words::Id;
-use room_words::{Overlay, TempItem, places_are_compared};
-
-/// What does not stand on a model.
-#[derive(Clone, Copy, Debug, PartialEq, Eq)]
-pub struct Lost {
-    /// The identifier of the item, or of the switch that the position is of.
-    pub id: Id,
-}
+use room_words::{Lost, Overlay, TempItem, places_are_compared};
 
 /// Whether an item stands on the model of an index, under an overlay in which no two items have one identifier.
 pub fn stands(index: &Index, overlay: &Overlay, item: &TempItem) -> Result<(), Lost>

@@ -6,5 +6,5 @@ mod marks;
 mod overlays;
 mod places;
 
-pub use items::{Lost, stands};
+pub use items::stands;
 pub use overlays::{first_lost, overlay_stands};

@@ -12,13 +12,13 @@ ghost use Rattle.room_words.specs.declared.items.TempItem.{TempItem};
 ghost use Rattle.room_words.specs.declared.overlay.Position.{Position};
 ghost use Rattle.temporary.specs.Lost.{IsFirstLost};
 ghost use Rattle.temporary.specs.Parts as parts;
-ghost use Rattle.temporary.specs.declared.items.Lost.{Lost};
+ghost use Rattle.room_words.specs.declared.lost.Lost.{Lost};
 
-use crate::items::{Lost, does_stand, is_good};
+use crate::items::{does_stand, is_good};
 use cim_model::marks_divide_segments;
 use cim_records::Index;
 use cim_words::{Id, MOST_ITEMS};
-use room_words::{Overlay, Position, TempItem, places_are_compared};
+use room_words::{Lost, Overlay, Position, TempItem, places_are_compared};
 
 /// Whether an overlay stands on the model of an index. Each item is compared with each other one.
 pub fn overlay_stands(index: &Index, overlay: &Overlay) -> bool
