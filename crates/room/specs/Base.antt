@@ -4,8 +4,8 @@ use Rattle.cim_profile.specs.FirstBreak.{IsFirstBreak}
 use Rattle.cim_words.specs.declared.statement.Statement.{Statement}
 use Rattle.nt_text.specs.declared.refusal.LineRefusal.{LineRefusal}
 use Rattle.nt_text.specs.Document.{IsDocument, IsBadDocument}
-use Rattle.room.specs.declared.status.Status.{Status}
-use Rattle.room.specs.declared.status.Status.TheVariants as status
+use Rattle.room.specs.declared.refusal.BaseRefusal.{BaseRefusal}
+use Rattle.room.specs.declared.refusal.BaseRefusal.TheVariants as refusal
 use Rattle.statement_set.specs.Set.{IsSetOf, most_statements}
 
 -- the most bytes that a base may have
@@ -41,9 +41,7 @@ abbrev pub HasBadLine : List ℕ → ℕ → LineRefusal → Type 0
 HasBadLine bytes line why = (length bytes ≤ base_limit) × ((found : List Statement) × IsBadDocument bytes line why found)
 
 -- Why bytes are no base: they are too many; a line of them is bad; their statements are too many; or these break the profile.
-abbrev pub RefusesBase : List ℕ → Status → Type 0
-RefusesBase bytes status.Limit = (base_limit < length bytes) ⊎ HasTooMany bytes
-RefusesBase bytes (status.Document line why) = HasBadLine bytes line why
-RefusesBase bytes (status.Profile rule subject) = IsUnsound bytes rule subject.number
-RefusesBase bytes status.NoMemory = Unit {0}
-RefusesBase bytes _ = ⊥
+abbrev pub RefusesBase : List ℕ → BaseRefusal → Type 0
+RefusesBase bytes refusal.Limit = (base_limit < length bytes) ⊎ HasTooMany bytes
+RefusesBase bytes (refusal.Document line why) = HasBadLine bytes line why
+RefusesBase bytes (refusal.Profile rule subject) = IsUnsound bytes rule subject.number

@@ -1,20 +1,21 @@
 -- What the program answers: a status and a text, by the words of its command and by what the shelf tells.
-use Rattle.std.specs.Prelude.{ℕ, ◌≡◌, ◌⊎◌, List, [], ◌∷◌, length, Option, Some, IfSome, Bool, true, false, IsTrue, Result, Ok, Err}
+use Rattle.std.specs.Prelude.{ℕ, ◌≡◌, ◌⊎◌, List, [], ◌∷◌, length, Option, Some, IfSome, Bool, true, false, IsTrue, Result, Err}
 use Rattle.cim_model.specs.Links.{network}
 use Rattle.cim_model.specs.Network.{is_equipment}
 use Rattle.cim_model.specs.Reach.{IsReached}
 use Rattle.cim_model.specs.Trace.{IsTrace, Row}
 use Rattle.cim_words.specs.declared.phases.PhaseSet.{PhaseSet}
 use Rattle.cim_words.specs.declared.statement.Statement.{Statement}
-use Rattle.grid_out.specs.declared.reading.ShelfFault.{ShelfFault}
-use Rattle.grid_out.specs.declared.reading.ShelfFault.TheVariants as fault
 use Rattle.grid_out.specs.Faults.{Rose}
 use Rattle.grid_out.specs.Sink.{Gains, GainsPrefix}
-use Rattle.nt_text.specs.declared.refusal.NtFault.{NtFault}
-use Rattle.nt_text.specs.declared.refusal.NtFault.TheVariants as nt_fault
-use Rattle.statement_set.specs.declared.refusal.SetRefusal.{SetRefusal}
-use Rattle.statement_set.specs.declared.refusal.SetRefusal.TheVariants as set_refusal
 use Rattle.room_words.specs.Overlay.{no_overlay}
+use Rattle.room.specs.declared.refusal.BaseRefusal.{BaseRefusal}
+use Rattle.room.specs.declared.refusal.Failure.{Failure}
+use Rattle.room.specs.declared.refusal.Failure.TheVariants as failure
+use Rattle.room.specs.declared.refusal.Refusal.{Refusal}
+use Rattle.room.specs.declared.refusal.Refusal.TheVariants as refusal
+use Rattle.room.specs.declared.refusal.TaskRefusal.{TaskRefusal}
+use Rattle.room.specs.declared.refusal.TaskRefusal.TheVariants as of_task
 use Rattle.room.specs.declared.status.Status.{Status}
 use Rattle.room.specs.declared.status.Status.TheVariants as status
 use Rattle.room.specs.declared.task.Task.{Task}
@@ -22,7 +23,7 @@ use Rattle.room.specs.declared.task.Task.TheVariants as task
 use Rattle.room.specs.Base.{IsBase, RefusesBase}
 use Rattle.room.specs.CheckText.{check_text}
 use Rattle.room.specs.Command.{IsCommand}
-use Rattle.room.specs.Status.{status_line}
+use Rattle.room.specs.Status.{line_of, status_of}
 use Rattle.room.specs.TraceText.{trace_text}
 
 -- the words are no command of this program
@@ -62,47 +63,56 @@ Tells task.Check set text = text ≡ check_text (length set)
 Tells (task.Trace source phases) set text = IsTraced set source.number phases text
 
 -- why a task tells nothing of a set: a trace begins at equipment
-abbrev pub RefusesTrace : List Statement → ℕ → Status → Type 0
-RefusesTrace set source status.Asked = is_equipment set source ≡ false
-RefusesTrace set source status.NoMemory = Unit {0}
-RefusesTrace set source _ = ⊥
+abbrev pub RefusesTrace : List Statement → ℕ → TaskRefusal → Type 0
+RefusesTrace set source of_task.Asked = is_equipment set source ≡ false
 
-abbrev pub RefusesTask : Task → List Statement → Status → Type 0
-RefusesTask task.Check set refusal = ⊥
-RefusesTask (task.Trace source phases) set refusal = RefusesTrace set source.number refusal
+abbrev pub RefusesTask : Task → List Statement → TaskRefusal → Type 0
+RefusesTask task.Check set why = ⊥
+RefusesTask (task.Trace source phases) set why = RefusesTrace set source.number why
 
 -- what a task tells of bytes, and why it tells nothing of them
 abbrev pub IsTold : List ℕ → Task → List ℕ → Type 0
 IsTold bytes asked text = (set : List Statement) × IsBase bytes set × Tells asked set text
 
-abbrev pub IsUntold : List ℕ → Task → Status → Type 0
-IsUntold bytes asked refusal = RefusesBase bytes refusal ⊎ ((set : List Statement) × IsBase bytes set × RefusesTask asked set refusal)
+abbrev pub IsUntold : List ℕ → Task → Refusal → Type 0
+IsUntold bytes asked (refusal.Base why) = RefusesBase bytes why
+IsUntold bytes asked (refusal.Task why) = (set : List Statement) × IsBase bytes set × RefusesTask asked set why
+IsUntold bytes asked why = ⊥
 
 -- the task's text of the base that was read
 abbrev pub HasAnswer : (List ℕ → Option (List ℕ)) → List (List ℕ) → List ℕ → Type 0
 HasAnswer told words text = (reads : Reads told words) × Tells reads.asks.asked reads.set text
 
 -- the base that was asked for is none
-abbrev pub HasNoBase : (List ℕ → Option (List ℕ)) → List (List ℕ) → Status → Type 0
-HasNoBase told words refusal = (asks : Asks words) × IfSome (told asks.name) (λ bytes. RefusesBase bytes refusal)
+abbrev pub HasNoBase : (List ℕ → Option (List ℕ)) → List (List ℕ) → BaseRefusal → Type 0
+HasNoBase told words why = (asks : Asks words) × IfSome (told asks.name) (λ bytes. RefusesBase bytes why)
 
 -- the base that was read has no such answer
-abbrev pub HasNoAnswer : (List ℕ → Option (List ℕ)) → List (List ℕ) → Status → Type 0
-HasNoAnswer told words refusal = (reads : Reads told words) × RefusesTask reads.asks.asked reads.set refusal
+abbrev pub HasNoAnswer : (List ℕ → Option (List ℕ)) → List (List ℕ) → TaskRefusal → Type 0
+HasNoAnswer told words why = (reads : Reads told words) × RefusesTask reads.asks.asked reads.set why
 
--- When each status comes, and with which text. Want of memory comes at any time, with no text.
+-- why words have no answer, by what the shelf tells: they are no command, the base that they name could not be read or is none, or
+-- the base has no such answer
+abbrev pub Explains : (List ℕ → Option (List ℕ)) → List (List ℕ) → Refusal → Type 0
+Explains told words refusal.Usage = IsNoCommand words
+Explains told words refusal.ReadFault = Asks words
+Explains told words (refusal.Base why) = HasNoBase told words why
+Explains told words (refusal.Task why) = HasNoAnswer told words why
+
+-- a refusal explains why there is no answer, and status and text are its own
+pub record IsRefused (told : List ℕ → Option (List ℕ)) (words : List (List ℕ)) (ends : Status) (text : List ℕ) : Type 0 where
+  pub why : Refusal
+  pub explains : Explains told words why
+  pub status : ends ≡ status_of why
+  pub line : text ≡ line_of why
+
+-- When each status comes, and with which text: the text of the answer, written or not; nothing for want of memory, which comes at any
+-- time; and else the line of a refusal.
 abbrev pub Answers : (List ℕ → Option (List ℕ)) → List (List ℕ) → Status → List ℕ → Type 0
 Answers told words status.Ok text = HasAnswer told words text
 Answers told words status.WriteFault text = HasAnswer told words text
-Answers told words status.Usage text = IsNoCommand words × (text ≡ status_line status.Usage)
-Answers told words status.ReadFault text = Asks words × (text ≡ status_line status.ReadFault)
-Answers told words status.Limit text = HasNoBase told words status.Limit × (text ≡ status_line status.Limit)
-Answers told words (status.Document line why) text =
-    HasNoBase told words (status.Document line why) × (text ≡ status_line (status.Document line why))
-Answers told words (status.Profile rule subject) text =
-    HasNoBase told words (status.Profile rule subject) × (text ≡ status_line (status.Profile rule subject))
-Answers told words status.Asked text = HasNoAnswer told words status.Asked × (text ≡ status_line status.Asked)
 Answers told words status.NoMemory text = text ≡ []
+Answers told words ends text = IsRefused told words ends text
 
 -- What the output gained: the text; after a fault of the output a front of it. A refusal's line that the output does not take
 -- leaves the status as it is.
@@ -110,11 +120,14 @@ pub record GainsFront (old new : Option (List ℕ)) (before now : ℕ) (text : L
   pub front : GainsPrefix old new text
   pub fault : Rose before now
 
+abbrev pub GainsAtMost : Option (List ℕ) → Option (List ℕ) → ℕ → ℕ → List ℕ → Type 0
+GainsAtMost old new before now text = (Gains old new text × (now ≡ before)) ⊎ GainsFront old new before now text
+
 abbrev pub Writes : Status → Option (List ℕ) → Option (List ℕ) → ℕ → ℕ → List ℕ → Type 0
 Writes status.Ok old new before now text = Gains old new text × (now ≡ before)
 Writes status.WriteFault old new before now text = GainsFront old new before now text
 Writes status.NoMemory old new before now text = Gains old new [] × (now ≡ before)
-Writes _ old new before now text = (Gains old new text × (now ≡ before)) ⊎ GainsFront old new before now text
+Writes _ old new before now text = GainsAtMost old new before now text
 
 -- the pieces in which a text is handed to the output: all of it at once, and nothing where no text is written
 abbrev pub pieces_of : Status → List ℕ → List (List ℕ)
@@ -126,9 +139,9 @@ abbrev pub is_read_fault : Status → Bool
 is_read_fault status.ReadFault = true
 is_read_fault _ = false
 
-abbrev pub is_failed_read : {T : Type 0} → Result T Status → Bool
-is_failed_read (Ok _) = false
-is_failed_read (Err s) = is_read_fault s
+abbrev pub is_failed_read : {T : Type 0} → Result T (Failure Refusal) → Bool
+is_failed_read (Err (failure.Refusal refusal.ReadFault)) = true
+is_failed_read _ = false
 
 -- a status that follows from the words and from what the shelf told, without a fault or want of memory
 abbrev pub is_answer : Status → Bool
@@ -136,24 +149,3 @@ is_answer status.ReadFault = false
 is_answer status.WriteFault = false
 is_answer status.NoMemory = false
 is_answer _ = true
-
--- a status that is told by its line, or by nothing
-abbrev pub is_refusal : Status → Bool
-is_refusal status.Ok = false
-is_refusal status.WriteFault = false
-is_refusal _ = true
-
--- the status that a failed read leads to
-abbrev pub status_of_fault : ShelfFault → Status
-status_of_fault fault.Failed = status.ReadFault
-status_of_fault fault.Longer = status.Limit
-status_of_fault fault.NoMemory = status.NoMemory
-
--- the status that a bad line, and that a set that is not made, lead to
-abbrev pub status_of_line : NtFault → Status
-status_of_line (nt_fault.Line line why) = status.Document line why
-status_of_line nt_fault.NoMemory = status.NoMemory
-
-abbrev pub status_of_set : SetRefusal → Status
-status_of_set (set_refusal.TooMany count) = status.Limit
-status_of_set set_refusal.NoMemory = status.NoMemory

@@ -5,6 +5,11 @@ use Rattle.cim_words.specs.IdText.{id_text}
 use Rattle.cim_words.specs.Written.{line_feed}
 use Rattle.nt_text.specs.Refusal.{refusal_word}
 use Rattle.nt_text.specs.declared.refusal.LineRefusal.{LineRefusal}
+use Rattle.room.specs.declared.refusal.BaseRefusal.{BaseRefusal}
+use Rattle.room.specs.declared.refusal.BaseRefusal.TheVariants as base
+use Rattle.room.specs.declared.refusal.Refusal.{Refusal}
+use Rattle.room.specs.declared.refusal.Refusal.TheVariants as refusal
+use Rattle.room.specs.declared.refusal.TaskRefusal.TheVariants as task
 use Rattle.room.specs.declared.status.Status.{Status}
 use Rattle.room.specs.declared.status.Status.TheVariants as status
 
@@ -28,14 +33,26 @@ document_line line why = codes "document " ++ decimal line ++ codes " " ++ refus
 abbrev pub profile_line : ℕ → ℕ → List ℕ
 profile_line rule subject = codes "profile " ++ decimal rule ++ codes " " ++ id_text subject ++ line_feed ∷ []
 
--- the line on the output that tells of a refusal
-abbrev pub status_line : Status → List ℕ
-status_line status.Ok = []
-status_line status.Usage = codes "usage" ++ line_feed ∷ []
-status_line status.ReadFault = codes "read fault" ++ line_feed ∷ []
-status_line status.Limit = codes "limit" ++ line_feed ∷ []
-status_line (status.Document line why) = document_line line why
-status_line (status.Profile rule subject) = profile_line rule subject.number
-status_line status.Asked = codes "asked" ++ line_feed ∷ []
-status_line status.WriteFault = []
-status_line status.NoMemory = []
+-- the line that tells why bytes are no base, and the line that tells of a refusal
+abbrev pub base_line : BaseRefusal → List ℕ
+base_line base.Limit = codes "limit" ++ line_feed ∷ []
+base_line (base.Document line why) = document_line line why
+base_line (base.Profile rule subject) = profile_line rule subject.number
+
+abbrev pub line_of : Refusal → List ℕ
+line_of refusal.Usage = codes "usage" ++ line_feed ∷ []
+line_of refusal.ReadFault = codes "read fault" ++ line_feed ∷ []
+line_of (refusal.Base why) = base_line why
+line_of (refusal.Task task.Asked) = codes "asked" ++ line_feed ∷ []
+
+-- the status with which a refused run ends
+abbrev pub status_of_base : BaseRefusal → Status
+status_of_base base.Limit = status.Limit
+status_of_base (base.Document line why) = status.Document line why
+status_of_base (base.Profile rule subject) = status.Profile rule subject
+
+abbrev pub status_of : Refusal → Status
+status_of refusal.Usage = status.Usage
+status_of refusal.ReadFault = status.ReadFault
+status_of (refusal.Base why) = status_of_base why
+status_of (refusal.Task task.Asked) = status.Asked

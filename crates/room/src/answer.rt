@@ -1,16 +1,16 @@
 //! What the program answers to its words.
 
-ghost use Rattle.std.specs.Prelude.{◌≡◌, ◌≤◌, ℕ, List, length, map, string_bytes, IfOk, IfErr, IsTrue};
+ghost use Rattle.std.specs.Prelude.{◌≡◌, ◌≤◌, ℕ, List, length, map, string_bytes, IfOk, IfErr};
 ghost use Rattle.grid_out.specs.Faults.{CountsFaults};
 ghost use Rattle.grid_out.specs.Shelf.{AsksFor};
 ghost use Rattle.room.specs.Base.{base_limit};
-ghost use Rattle.room.specs.Run.{Answers, AreNames, IsTold, IsUntold, is_failed_read, is_refusal};
-ghost use Rattle.room.specs.Status.{status_line};
+ghost use Rattle.room.specs.Refusal.{IfRefusal};
+ghost use Rattle.room.specs.Run.{AreNames, Explains, HasAnswer, IsTold, IsUntold, is_failed_read};
 
 use crate::base::read_base;
 use crate::check_text::write_check;
 use crate::command::command;
-use crate::status::Status;
+use crate::refusal::{Failure, Refusal};
 use crate::task::Task;
 use crate::tracing::trace_of;
 use grid_out::Shelf;
@@ -24,33 +24,32 @@ pub(crate) fn answer<F: Shelf>(
     alloc: Global,
     words: &[String],
     shelf: &mut F,
-) -> Result<Vec<u8>, Status>
-    ensures text { IfOk result (λ text. Answers (F.content shelf.old) (map string_bytes words.now) Status.Ok text.items) }
-    ensures refusal { IfErr result (λ status. Answers (F.content shelf.old) (map string_bytes words.now) status (status_line status)) }
-    ensures refuses { IfErr result (λ status. IsTrue (is_refusal status)) }
+) -> Result<Vec<u8>, Failure<Refusal>>
+    ensures text { IfOk result (λ text. HasAnswer (F.content shelf.old) (map string_bytes words.now) text.items) }
+    ensures refusal { IfErr result (λ failure. IfRefusal failure (Explains (F.content shelf.old) (map string_bytes words.now))) }
     ensures cause { CountsFaults (F.faults shelf.old) (F.faults shelf.new) (is_failed_read result) }
     ensures asks { (names : List (List ℕ)) × AreNames (map string_bytes words.now) names × AsksFor (F.asked shelf.old) (F.asked shelf.new) names }
     ensures kept { (name : List ℕ) → F.content shelf.new name ≡ F.content shelf.old name }
 {
     let Some((name, task)) = command(words) else {
-        return Err(Status::Usage);
+        return Err(Failure::Refusal(Refusal::Usage));
     };
     let mut bytes = Vec::new(alloc);
     match shelf.read_whole(name, BASE_LIMIT, &mut bytes) {
         Ok(()) => answer_of(alloc, bytes, task),
-        Err(fault) => Err(Status::from(fault)),
+        Err(fault) => Err(Failure::from(fault)),
     }
 }
 
 /// What a task tells of a base.
-fn answer_of(alloc: Global, bytes: Vec<u8>, task: Task) -> Result<Vec<u8>, Status>
+fn answer_of(alloc: Global, bytes: Vec<u8>, task: Task) -> Result<Vec<u8>, Failure<Refusal>>
     requires { length bytes.items ≤ base_limit }
     ensures told { IfOk result (λ text. IsTold bytes.items task text.items) }
-    ensures untold { IfErr result (IsUntold bytes.items task) }
+    ensures untold { IfErr result (λ failure. IfRefusal failure (IsUntold bytes.items task)) }
 {
     let set = read_base(alloc, bytes)?;
     match task {
         Task::Check => Ok(write_check(alloc, set.len())?),
-        Task::Trace { source, phases } => trace_of(alloc, &set, source, phases),
+        Task::Trace { source, phases } => Ok(trace_of(alloc, &set, source, phases)?),
     }
 }

@@ -9,6 +9,7 @@ mod file_shelf;
 mod laws;
 mod out_sink;
 mod process;
+mod refusal;
 mod refusal_line;
 mod run;
 mod status;

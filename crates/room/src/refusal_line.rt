@@ -1,11 +1,10 @@
 //! The lines by which refusals are told.
 
-ghost use Rattle.std.specs.Prelude.{◌≡◌, IfOk, OnErr, false};
+ghost use Rattle.std.specs.Prelude.{◌≡◌, ◌≢◌, IfOk, OnErr};
 ghost use Rattle.room.specs.RefusalLine.{line_bytes};
-ghost use Rattle.room.specs.Run.{is_read_fault};
-ghost use Rattle.room.specs.Status.{status_line, document_line, profile_line};
+ghost use Rattle.room.specs.Status.{base_line, document_line, line_of, profile_line};
 
-use crate::status::Status;
+use crate::refusal::{BaseRefusal, Refusal, TaskRefusal};
 use cim_words::{Id, NoMemory};
 use nt_text::LineRefusal;
 use std::alloc::Global;
@@ -31,23 +30,30 @@ impl RefusalLine {
     }
 }
 
-/// The line that tells of a refusal, empty where there is none. The line of a fault of reading takes no memory.
-pub(crate) fn refusal_line(alloc: Global, refusal: Status) -> Result<RefusalLine, NoMemory>
-    ensures line { IfOk result (λ line. line_bytes line ≡ status_line refusal) }
-    ensures needy { OnErr result (is_read_fault refusal ≡ false) }
+/// The line that tells of a refusal. The line of a fault of reading takes no memory.
+pub(crate) fn refusal_line(alloc: Global, refusal: Refusal) -> Result<RefusalLine, NoMemory>
+    ensures line { IfOk result (λ line. line_bytes line ≡ line_of refusal) }
+    ensures needy { OnErr result (refusal ≢ Refusal.ReadFault) }
 {
-    let fixed = match refusal {
-        Status::Document { line, why } => return Ok(RefusalLine::Made(bad_line(alloc, line, why)?)),
-        Status::Profile { rule, subject } => return Ok(RefusalLine::Made(broken_rule(
+    match refusal {
+        Refusal::Usage => Ok(RefusalLine::Fixed("usage\n")),
+        Refusal::ReadFault => Ok(RefusalLine::Fixed("read fault\n")),
+        Refusal::Base(why) => base_line(alloc, why),
+        Refusal::Task(TaskRefusal::Asked) => Ok(RefusalLine::Fixed("asked\n")),
+    }
+}
+
+/// The line that tells why bytes are no base.
+fn base_line(alloc: Global, refusal: BaseRefusal) -> Result<RefusalLine, NoMemory>
+    ensures { IfOk result (λ line. line_bytes line ≡ base_line refusal) }
+{
+    match refusal {
+        BaseRefusal::Limit => Ok(RefusalLine::Fixed("limit\n")),
+        BaseRefusal::Document { line, why } => Ok(RefusalLine::Made(bad_line(alloc, line, why)?)),
+        BaseRefusal::Profile { rule, subject } => Ok(RefusalLine::Made(broken_rule(
             alloc, rule, subject,
         )?)),
-        Status::Ok | Status::WriteFault | Status::NoMemory => "",
-        Status::Usage => "usage\n",
-        Status::ReadFault => "read fault\n",
-        Status::Limit => "limit\n",
-        Status::Asked => "asked\n",
-    };
-    Ok(RefusalLine::Fixed(fixed))
+    }
 }
 
 /// The line that tells of a bad line.

@@ -1,13 +1,14 @@
 //! A run of the program, from its words to its output.
 
-ghost use Rattle.std.specs.Prelude.{◌≡◌, ◌⊎◌, ℕ, List, [], ◌∷◌, map, string_bytes, IsTrue, false};
+ghost use Rattle.std.specs.Prelude.{◌≡◌, ◌≢◌, ◌⊎◌, ℕ, List, [], ◌∷◌, map, string_bytes};
 ghost use Rattle.grid_out.specs.Faults.{CountsFaults};
 ghost use Rattle.grid_out.specs.Shelf.{AsksFor};
-ghost use Rattle.grid_out.specs.Sink.{Hands};
-ghost use Rattle.room.specs.Run.{Answers, AreNames, Writes, is_read_fault, is_refusal, pieces_of};
-ghost use Rattle.room.specs.Status.{status_line};
+ghost use Rattle.grid_out.specs.Sink.{Gains, Hands};
+ghost use Rattle.room.specs.Run.{Answers, AreNames, GainsAtMost, Writes, is_read_fault, pieces_of};
+ghost use Rattle.room.specs.Status.{line_of, status_of};
 
 use crate::answer::answer;
+use crate::refusal::{Failure, Refusal};
 use crate::refusal_line::refusal_line;
 use crate::status::Status;
 use grid_out::{Shelf, Sink};
@@ -34,7 +35,8 @@ pub fn run_plain<F: Shelf, K: Sink>(
 {
     match answer(alloc, words, shelf) {
         Ok(text) => tell(&text, out),
-        Err(refusal) => refuse(alloc, refusal, out),
+        Err(Failure::Refusal(refusal)) => refuse(alloc, refusal, out),
+        Err(Failure::NoMemory) => Status::NoMemory,
     }
 }
 
@@ -50,30 +52,17 @@ fn tell<K: Sink>(text: &[u8], out: &mut K) -> Status
     }
 }
 
-/// Writes the line of a refusal, where it has one. A line that the output does not take changes nothing.
-fn refuse<K: Sink>(alloc: Global, refusal: Status, out: &mut K) -> Status
-    requires { IsTrue (is_refusal refusal) }
-    ensures writes { ((result ≡ refusal) × Writes refusal (K.written out.old) (K.written out.new) (K.faults out.old) (K.faults out.new) (status_line refusal))
-        ⊎ ((result ≡ Status.NoMemory) × (is_read_fault refusal ≡ false) × Writes Status.NoMemory (K.written out.old) (K.written out.new) (K.faults out.old) (K.faults out.new) []) }
-    ensures hands { Hands (K.handed out.old) (K.handed out.new) (pieces_of result (status_line result)) }
+/// Writes the line of a refusal. A line that the output does not take changes nothing.
+fn refuse<K: Sink>(alloc: Global, refusal: Refusal, out: &mut K) -> Status
+    ensures writes { ((result ≡ status_of refusal) × GainsAtMost (K.written out.old) (K.written out.new) (K.faults out.old) (K.faults out.new) (line_of refusal))
+        ⊎ ((result ≡ Status.NoMemory) × (refusal ≢ Refusal.ReadFault) × Gains (K.written out.old) (K.written out.new) [] × (K.faults out.new ≡ K.faults out.old)) }
+    ensures hands { Hands (K.handed out.old) (K.handed out.new) (pieces_of result (line_of refusal)) }
 {
     let Ok(line) = refusal_line(alloc, refusal) else {
         return Status::NoMemory;
     };
-    write_line(refusal, line.as_bytes(), out);
-    refusal
-}
-
-/// Writes the line of a refusal, unless it is empty.
-fn write_line<K: Sink>(refusal: Status, line: &[u8], out: &mut K)
-    requires line { line.now ≡ status_line refusal }
-    requires refuses { IsTrue (is_refusal refusal) }
-    ensures writes { Writes refusal (K.written out.old) (K.written out.new) (K.faults out.old) (K.faults out.new) (status_line refusal) }
-    ensures hands { Hands (K.handed out.old) (K.handed out.new) (pieces_of refusal (status_line refusal)) }
-{
-    if !line.is_empty() {
-        let _ = out.write_all(line);
-    }
+    let _ = out.write_all(line.as_bytes());
+    Status::from(refusal)
 }
 
 #[cfg(test)]

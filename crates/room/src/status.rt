@@ -3,10 +3,9 @@
 ghost use Rattle.std.specs.Prelude.{◌≡◌};
 ghost use Rattle.room.specs.Status.{status_code};
 
-use cim_words::{Id, NoMemory};
-use grid_out::ShelfFault;
-use nt_text::{LineRefusal, NtFault};
-use statement_set::SetRefusal;
+use crate::refusal::{BaseRefusal, Refusal, TaskRefusal};
+use cim_words::Id;
+use nt_text::LineRefusal;
 
 /// How a run ends. A refusal is also told by a line on the output.
 #[derive(Clone, Copy, Debug, PartialEq, Eq)]
@@ -41,56 +40,22 @@ pub enum Status {
     NoMemory,
 }
 
-impl From<NoMemory> for Status {
+impl From<Refusal> for Status {
     ghost use Rattle.std.specs.Prelude.{◌≡◌};
-    ghost use Rattle.room.specs.declared.status.Status.TheVariants.{NoMemory as no_memory};
+    ghost use Rattle.room.specs.Status.{status_of};
 
-    ghost from_gives = { λ _ status. status ≡ no_memory };
+    ghost from_gives = { λ refusal status. status ≡ status_of refusal };
 
-    fn from(_error: NoMemory) -> Status {
-        Status::NoMemory
-    }
-}
-
-impl From<ShelfFault> for Status {
-    ghost use Rattle.std.specs.Prelude.{◌≡◌};
-    ghost use Rattle.room.specs.Run.{status_of_fault};
-
-    ghost from_gives = { λ fault status. status ≡ status_of_fault fault };
-
-    fn from(fault: ShelfFault) -> Status {
-        match fault {
-            ShelfFault::Failed => Status::ReadFault,
-            ShelfFault::Longer => Status::Limit,
-            ShelfFault::NoMemory => Status::NoMemory,
-        }
-    }
-}
-
-impl From<NtFault> for Status {
-    ghost use Rattle.std.specs.Prelude.{◌≡◌};
-    ghost use Rattle.room.specs.Run.{status_of_line};
-
-    ghost from_gives = { λ fault status. status ≡ status_of_line fault };
-
-    fn from(fault: NtFault) -> Status {
-        match fault {
-            NtFault::Line { line, why } => Status::Document { line, why },
-            NtFault::NoMemory => Status::NoMemory,
-        }
-    }
-}
-
-impl From<SetRefusal> for Status {
-    ghost use Rattle.std.specs.Prelude.{◌≡◌};
-    ghost use Rattle.room.specs.Run.{status_of_set};
-
-    ghost from_gives = { λ refusal status. status ≡ status_of_set refusal };
-
-    fn from(refusal: SetRefusal) -> Status {
+    fn from(refusal: Refusal) -> Status {
         match refusal {
-            SetRefusal::TooMany(_) => Status::Limit,
-            SetRefusal::NoMemory => Status::NoMemory,
+            Refusal::Usage => Status::Usage,
+            Refusal::ReadFault => Status::ReadFault,
+            Refusal::Base(BaseRefusal::Limit) => Status::Limit,
+            Refusal::Base(BaseRefusal::Document { line, why }) => Status::Document { line, why },
+            Refusal::Base(BaseRefusal::Profile { rule, subject }) => {
+                Status::Profile { rule, subject }
+            }
+            Refusal::Task(TaskRefusal::Asked) => Status::Asked,
         }
     }
 }

@@ -3,10 +3,11 @@
 ghost use Rattle.std.specs.Prelude.{◌≡◌, IfErr, IfOk};
 ghost use Rattle.cim_model.specs.Profile.{IsFaultless};
 ghost use Rattle.link_rules.specs.Map.{IsMap};
+ghost use Rattle.room.specs.Refusal.{IfRefusal};
 ghost use Rattle.room.specs.Run.{IsTraced, RefusesTrace};
 ghost use Rattle.room_words.specs.Overlay.{no_overlay};
 
-use crate::status::Status;
+use crate::refusal::{Failure, TaskRefusal};
 use crate::trace_text::write_trace;
 use cim_model::the_empty_overlay_stands;
 use cim_records::Index;
@@ -27,10 +28,10 @@ pub(crate) fn trace_of(
     set: &StatementSet,
     source: Id,
     phases: PhaseSet,
-) -> Result<Vec<u8>, Status>
+) -> Result<Vec<u8>, Failure<TaskRefusal>>
     requires { IsFaultless set.now }
     ensures traced { IfOk result (λ text. IsTraced set.now source.number phases text.items) }
-    ensures refused { IfErr result (RefusesTrace set.now source.number) }
+    ensures refused { IfErr result (λ failure. IfRefusal failure (RefusesTrace set.now source.number)) }
 {
     let index = Index::build(alloc, set)?;
     let graph = graph_of::<Brand>(alloc, &index, Blank::new(1))?;
@@ -39,7 +40,7 @@ pub(crate) fn trace_of(
     walks_are_reach();
     match tracer.trace(&graph, source, phases) {
         Ok(()) => Ok(write_trace(alloc, &tracer)?),
-        Err(NoSuch) => Err(Status::Asked),
+        Err(NoSuch) => Err(Failure::Refusal(TaskRefusal::Asked)),
     }
 }
 

@@ -1,7 +1,8 @@
 use Rattle.std.proofs.Common.{◌∷◌, [], inr, refl, sym, ap, subst, map, string_bytes, Err}
-use Rattle.room.specs.Run.{Asks, Answers}
-use Rattle.room.specs.Status.{status_line}
-use Rattle.room.specs.declared.status.Status.{Status}
+use Rattle.room.specs.Refusal.{IfRefusal}
+use Rattle.room.specs.Run.{Asks, Explains}
+use Rattle.room.specs.declared.refusal.Failure.{Failure}
+use Rattle.room.specs.declared.refusal.Refusal.{Refusal}
 use Rattle.room.proofs.AnswerLemmas.{told, untold, unread}
 use Rattle.room.proofs.answer.answer.Goals as goal
 
@@ -18,7 +19,7 @@ returns-in-Ok-clause-refusal g c =
 pub returns-in-Err-clause-refusal : goal.returns-in-Err-clause-refusal
 returns-in-Err-clause-refusal g c =
     let asks : Asks (map string_bytes c.args.words.now) = record { name = c.in-Some.name.now; asked = c.in-Some.task; command = c.in-Some.ensures.found } in
-    let A : Status → Type 0 = λ s. Answers (g.F.Shelf.content c.args.shelf.now) (map string_bytes c.args.words.now) s (status_line s) in
+    let A : Failure Refusal → Type 0 = λ f. IfRefusal f (Explains (g.F.Shelf.content c.args.shelf.now) (map string_bytes c.args.words.now)) in
     subst A (sym c.from.ensures) (unread c.in-Err.fault (g.F.Shelf.content c.args.shelf.now) (map string_bytes c.args.words.now) asks (λ is. c.in-Err.ensures.longer (ap Err is)))
 
 -- the base was asked for, and nothing else
