@@ -10,7 +10,6 @@ use Rattle.cim_words.specs.declared.object.Object.TheVariants as object
 use Rattle.cim_words.specs.declared.statement.Statement.{Statement}
 use Rattle.cim_words.proofs.Spellings.{iri_spelling-id_iri}
 use Rattle.nt_text.specs.Cut.{IsFreeOf}
-use Rattle.nt_text.specs.Spelling.{closing}
 use Rattle.nt_text.proofs.Cuts.{IsFreeOf-append}
 
 -- a test that computes
@@ -33,15 +32,6 @@ pub record IsKeptOut (mark : ℕ) : Type 0 where
   pub in_escape : IsFreeOf mark (backslash ∷ codes "u00")
   pub in_digits : IsFreeOf mark (codes "0123456789ABCDEF")
   pub no_nul : 0 ≢ mark
-
-pub closing_out : IsKeptOut closing
-unfolding is_iri_character
-closing_out = record {
-  in_iri = refl;
-  in_escape = free_by_test closing (backslash ∷ codes "u00") refl;
-  in_digits = free_by_test closing (codes "0123456789ABCDEF") refl;
-  no_nul = λ e. absurd (let z : 0 ≡ closing = e in omega arith);
-}
 
 pub line_feed_out : IsKeptOut line_feed
 unfolding is_iri_character

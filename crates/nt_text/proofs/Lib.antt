@@ -10,17 +10,14 @@ pub mod LineReads
 pub mod LiteralEnds
 pub mod ObjectEnds
 pub mod OneDocument
-pub mod OneLine
 pub mod OneReading
 pub mod OneText
 pub mod QuoteCuts
 pub mod ReaderLemmas
 pub mod ReaderStates
-pub mod Readings
 pub mod Runs
 pub mod SpelledReads
 pub mod SpelledTexts
-pub mod Spellings
 pub mod Tags
 pub mod TakenBytes
 pub mod TermForms

@@ -1,6 +1,7 @@
 -- A line reads in one way.
 use Rattle.std.proofs.Common.{◌≡◌, ◌≢◌, ℕ, ◌<◌, ◌≤◌, List, ◌∷◌, ◌++◌, inl, inr, ⊎_elim, Option, IfSome, true, false, ◌==◌, Some, None, length, refl, sym, ap, ◌∙◌, arith, subst}
 use Rattle.std.proofs.lemmas.Bool.{cases_lt}
+use Rattle.std.proofs.lemmas.Option.{same_Some}
 use Rattle.cim_words.specs.IdText.{iri_number}
 use Rattle.cim_words.specs.Object.{object_of}
 use Rattle.cim_words.specs.Prop.{prop_of}
@@ -9,12 +10,14 @@ use Rattle.cim_words.specs.declared.object.Object.{Object}
 use Rattle.cim_words.specs.declared.object.Object.TheVariants as object
 use Rattle.cim_words.specs.declared.statement.Statement.{Statement}
 use Rattle.cim_words.proofs.Statements.{same_statement}
+use Rattle.nt_text.specs.Ends.{IsSayingFault}
 use Rattle.nt_text.specs.Grammar.{is_blank, HasIri, HasCharacters, HasObject, IsTriple, IsEmptyLine, BeginsBlankNode, HasBlankNode}
 use Rattle.nt_text.specs.Parts.{Spells}
 use Rattle.nt_text.specs.Quotes.{closing_at}
 use Rattle.nt_text.specs.Reading.{Reading, nothing, holds, refused, IsReading, Says, SaysOfNone}
 use Rattle.nt_text.specs.Run.{behind_run, begins_no_term}
 use Rattle.nt_text.specs.Spelling.{closing}
+use Rattle.nt_text.specs.declared.refusal.LineFault.TheVariants as fault
 use Rattle.nt_text.specs.declared.refusal.LineRefusal.{LineRefusal}
 use Rattle.nt_text.specs.declared.refusal.LineRefusal.TheVariants as why
 use Rattle.nt_text.specs.declared.spelling.Coding.TheVariants.{Iri, Literal}
@@ -23,7 +26,6 @@ use Rattle.nt_text.proofs.Insides.{iri_free, literal_closes}
 use Rattle.nt_text.proofs.LiteralEnds.{other_byte}
 use Rattle.nt_text.proofs.ObjectEnds.{iri_no_literal}
 use Rattle.nt_text.proofs.OneText.{one_text}
-use Rattle.nt_text.proofs.Readings.{some_is}
 use Rattle.nt_text.proofs.Runs.{empty_line_begins, blank_node_begins}
 use Rattle.nt_text.proofs.TermForms.{iri_begins, literal_begins, one_literal_cut}
 
@@ -96,16 +98,25 @@ blank_no_triple line s p o (inr node) triple =
     object_no_blank triple.after_property triple.after_object o triple.has_object (subst Q (sym properties.1) node.begins)
 
 -- a line says one statement, or none
-says_one : (line : List ℕ) (s t : Statement) → Says line s → Says line t → s ≡ t
+pub says_one : (line : List ℕ) (s t : Statement) → Says line s → Says line t → s ≡ t
 says_one line s t a b =
     let same = one_triple line a.subject a.property b.subject b.property s.object t.object a.triple b.triple in
-    let numbers = some_is s.subject.number t.subject.number (sym a.spells_subject ∙ ap iri_number same.0 ∙ b.spells_subject) in
+    let numbers = same_Some s.subject.number t.subject.number (sym a.spells_subject ∙ ap iri_number same.0 ∙ b.spells_subject) in
     same_statement s t (ap (λ (n : ℕ). record { number = n }) numbers) (a.names_property ∙ ap prop_of same.1 ∙ sym b.names_property) same.2
 
 says_some : (line : List ℕ) (s : Statement) → Says line s → SaysOfNone line → ⊥
 says_some line s says none =
     let same = one_triple line says.subject says.property none.subject none.property s.object none.thing says.triple none.triple in
     let no : Some s.subject.number ≡ None = sym says.spells_subject ∙ ap iri_number same.0 ∙ none.no_identifier in cc
+
+-- a line that says a statement is not refused for saying none
+pub says_no_fault : (line : List ℕ) (s : Statement) (w : LineRefusal) → Says line s → IsSayingFault line (fault.Refusal w) → ⊥
+says_no_fault line s why.Blank says blank = blank_no_triple line says.subject says.property s.object blank says.triple
+says_no_fault line s why.Syntax says none = none.1 says.subject says.property s.object says.triple
+says_no_fault line s why.Subject says none = says_some line s says none
+says_no_fault line s why.LineTooLong says none = none
+says_no_fault line s why.Utf8 says none = none
+says_no_fault line s why.Wide says none = none
 
 -- the readings in an order in which no two of them hold
 abbrev rank : Reading → ℕ

@@ -51,9 +51,6 @@ pub record IsReadTo (coding : Coding) (spelled done rest : List ℕ) : Type 0 wh
   pub found : (text : List ℕ) → Spells coding rest text → Spells coding spelled (done ++ text)
   pub only : (text : List ℕ) → Spells coding spelled text → (more : List ℕ) × (text ≡ done ++ more) × Spells coding rest more
 
-pub reading_begins : (coding : Coding) (spelled : List ℕ) → IsReadTo coding spelled [] spelled
-reading_begins coding spelled = record { found = λ text spells. spells; only = λ text spells. (text, refl, spells) }
-
 pub stops_here : (mark : ℕ) (behind : List ℕ) → StopsAt mark (mark ∷ behind)
 stops_here mark behind byte rest same = cc
 

@@ -67,9 +67,6 @@ pub record IsPast (bytes rest : List ℕ) : Type 0 where
   pub found : (end : List ℕ) → HasSubtags rest end → HasSubtags bytes end
   pub only : (end : List ℕ) → IsTrue (stops_tag end) → HasSubtags bytes end → HasSubtags rest end
 
-pub subtags_begin : (bytes : List ℕ) → IsPast bytes bytes
-subtags_begin bytes = record { found = λ end has. has; only = λ end stops has. has }
-
 -- the subtag behind a hyphen
 next_subtags : (rest subtag_on end : List ℕ) (subtags : List (List ℕ)) → rest ≡ codes "-" ++ subtag_on → AllByRecursion IsSubtag subtags
     → rest ≡ flat_map hyphened subtags ++ end → IsTrue (stops_tag end)
@@ -122,9 +119,6 @@ subtags_end rest end none has = at has.subtags has.layout
     at : (subtags : List (List ℕ)) → rest ≡ flat_map hyphened subtags ++ end → rest ≡ end
     at [] layout = layout
     at (subtag ∷ subtags) layout = absurd (none (subtag ++ flat_map hyphened subtags ++ end) layout)
-
-pub no_subtags : (rest : List ℕ) → HasSubtags rest rest
-no_subtags rest = record { subtags = []; each = tt; layout = refl }
 
 -- a tag is letters, and then subtags
 pub tag_from : (bytes rest end : List ℕ) → (run : List ℕ) × (0 < length run) × AllPass is_letter run × (bytes ≡ run ++ rest) → HasSubtags rest end → HasTag bytes end

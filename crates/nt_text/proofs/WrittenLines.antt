@@ -15,14 +15,28 @@ use Rattle.cim_words.specs.declared.statement.Statement.{Statement}
 use Rattle.cim_words.proofs.IdTexts.{iri_number-id_iri}
 use Rattle.cim_words.proofs.Spellings.{iri_spelling-id_iri, IsUtf8-id_iri}
 use Rattle.cim_words.proofs.Statements.{prop_of-prop_iri, object_of-id_iri, object_of-name}
+use Rattle.nt_text.specs.Ends.{IsSayingFault}
 use Rattle.nt_text.specs.Grammar.{is_blank, IsGap, HasIri, HasObject, IsEnd, IsTriple}
 use Rattle.nt_text.specs.Parts.{Spells}
-use Rattle.nt_text.specs.Reading.{holds, IsReading, line_limit}
-use Rattle.nt_text.specs.Spelling.{behind_iri}
+use Rattle.nt_text.specs.Reading.{holds, IsReading, Says, line_limit}
+use Rattle.nt_text.specs.Spelling.{behind_iri, triple}
+use Rattle.nt_text.specs.declared.refusal.LineFault.TheVariants as fault
+use Rattle.nt_text.specs.declared.refusal.LineRefusal.{LineRefusal}
 use Rattle.nt_text.specs.declared.spelling.Coding.TheVariants.{Iri, Literal}
-use Rattle.nt_text.proofs.Readings.{line_is_triple}
+use Rattle.nt_text.proofs.OneReading.{says_no_fault, says_one}
 use Rattle.nt_text.proofs.Runs.{none_pass, cons_passes}
 use Rattle.nt_text.proofs.WrittenParts.{Spells-written, Spells-utf8}
+
+-- the line of a statement is a triple of spelled parts
+line_is_triple : (s : Statement)
+    → written_line s ≡ triple (flat_map iri_spelling (id_iri s.subject.number)) (flat_map iri_spelling (prop_iri s.prop)) (written_object s.object)
+unfolding written_line
+line_is_triple s =
+    rw (iri_spelling-id_iri s.subject.number)
+    (grouped (codes "<") (id_iri s.subject.number) (codes ">") (codes " ") (flat_map iri_spelling (prop_iri s.prop)) (written_object s.object) (codes " ."))
+  where
+    grouped : (l a g w p o d : List ℕ) → (l ++ a ++ g) ++ w ++ (l ++ p ++ g) ++ w ++ o ++ d ≡ l ++ (a ++ ((g ++ w) ++ (l ++ (p ++ ((g ++ w) ++ (o ++ d))))))
+    grouped l a g w p o d = simp append_assoc
 
 one_space : IsGap (codes " ")
 one_space = cons_passes is_blank 0x20 [] refl (none_pass is_blank)
@@ -132,16 +146,31 @@ line_utf8 s held =
     (behind_utf8 prop rest (Spells-utf8 Iri prop (prop_iri s.prop) (Spells-written Iri (prop_iri s.prop) held.prop))
     (IsUtf8-append (written_object s.object) (codes " .") (object_utf8 s.object held.object) (ascii (codes " .") (search (rules, IsAscii-cons, IsAscii-nil))))))
 
--- the written line of a statement reads as that statement
+-- the written line of a statement says it
+pub written_says : (s : Statement) → IsStatement s → Says (written_line s) s
+written_says s held = record {
+  subject = id_iri s.subject.number;
+  property = prop_iri s.prop;
+  triple = triple_is s held;
+  spells_subject = iri_number-id_iri s.subject.number held.subject;
+  names_property = sym (prop_of-prop_iri s.prop s.proper_prop);
+}
+
+-- and reads as it
 pub written_reads : (s : Statement) → IsStatement s → length (written_line s) ≤ line_limit → IsReading (written_line s) (holds s)
-written_reads s held fits = (
-  record { fits = fits; utf8 = line_utf8 s held },
-  record {
-    subject = id_iri s.subject.number;
-    property = prop_iri s.prop;
-    triple = triple_is s held;
-    spells_subject = iri_number-id_iri s.subject.number held.subject;
-    names_property = sym (prop_of-prop_iri s.prop s.proper_prop);
-  },
-  fits,
-)
+written_reads s held fits = (record { fits = fits; utf8 = line_utf8 s held }, written_says s held, fits)
+
+-- what a line says that is the written line of a statement is that statement
+says_written : (line : List ℕ) (s : Statement) → IsStatement s → line ≡ written_line s → Says line s
+says_written line s held is = let P : List ℕ → Type 0 = λ l. Says l s in subst P (sym is) (written_says s held)
+
+pub said_is : (line : List ℕ) (said s : Statement) → Says line said → IsStatement s → line ≡ written_line s → said ≡ s
+said_is line said s says held is = says_one line said s says (says_written line s held is)
+
+-- and such a line is not refused for saying none
+pub no_fault : (line : List ℕ) (s : Statement) (w : LineRefusal) → IsStatement s → line ≡ written_line s → IsSayingFault line (fault.Refusal w) → ⊥
+no_fault line s w held is = says_no_fault line s w (says_written line s held is)
+
+-- a line is that of one statement
+pub one_line : (s t : Statement) → IsStatement s → IsStatement t → written_line s ≡ written_line t → s ≡ t
+one_line s t held held' same = said_is (written_line s) s t (written_says s held) held' same

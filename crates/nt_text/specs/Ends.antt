@@ -67,11 +67,15 @@ IsTripleFault line (fault.Refusal why.Blank) = HasBlankNode line
 IsTripleFault line (fault.Refusal why.Syntax) = (HasBlankNode line → ⊥) × ((subject property : List ℕ) (thing : Object) → IsTriple line subject property thing → ⊥)
 IsTripleFault line (fault.Refusal other) = ⊥
 
--- why no statement is read from a line
+-- why a line says no statement: it is no triple, or its subject is no identifier
+abbrev pub IsSayingFault : List ℕ → LineFault → Type 0
+IsSayingFault line (fault.Refusal why.Subject) = SaysOfNone line
+IsSayingFault line other = IsTripleFault line other
+
+-- why no statement is read from a line: it says none, or one whose written line is too long
 abbrev pub IsStatementFault : List ℕ → LineFault → Type 0
-IsStatementFault line (fault.Refusal why.Subject) = SaysOfNone line
 IsStatementFault line (fault.Refusal why.Wide) = (s : Statement) × Says line s × (line_limit < length (written_line s))
-IsStatementFault line other = IsTripleFault line other
+IsStatementFault line other = IsSayingFault line other
 
 -- how many bytes the text of an object has
 abbrev pub text_length : Object → ℕ

@@ -4,7 +4,6 @@
 mod characters;
 mod cut;
 mod ends;
-mod line;
 mod quotes;
 mod reader;
 mod reading;
@@ -12,14 +11,14 @@ mod refusal;
 mod run;
 mod spelling;
 mod terms;
-mod token;
 mod triple;
 mod writing;
 
 pub use cim_words::NoMemory;
 pub use cut::cut_at;
-pub use line::{LINE_LIMIT, lines_have_one_reading, read_line, written_lines_are_read};
 pub use reader::{LineReader, documents_have_one_reading, read_document};
-pub use reading::read_written;
+pub use reading::{
+    LINE_LIMIT, lines_have_one_reading, read_line, read_written, written_lines_are_read,
+};
 pub use refusal::{LineFault, LineRefusal, NtFault};
 pub use writing::{lines_are_whole, lines_differ, write_statement};

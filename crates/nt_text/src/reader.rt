@@ -9,7 +9,7 @@ ghost use Rattle.nt_text.specs.ReaderSteps.{IsPlain, IsEnd, IsFrontLine, is_half
 ghost use Rattle.nt_text.specs.declared.refusal.LineRefusal.{LineRefusal};
 ghost use Rattle.nt_text.specs.declared.refusal.NtFault.{NtFault};
 
-use crate::line::{LINE_LIMIT, read_line};
+use crate::reading::{LINE_LIMIT, read_line};
 use crate::refusal::{LineFault, LineRefusal, NtFault};
 use cim_words::{Statement, Statements};
 use memchr::memchr2;

@@ -1,139 +1,108 @@
-//! A statement from its line.
+//! One line: what it holds, in any spelling that the grammar allows, and in the one that is written.
 
-ghost use Rattle.std.specs.Prelude.{◌≡◌, ◌≢◌, ◌<◌, ◌^◌, ℕ, List, IfOk, IfSome, IfNone, IsSomeAnd, IsTrue, string_bytes};
-ghost use Rattle.std.specs.List.{flat_map};
-ghost use Rattle.std.specs.Str.{IsUtf8};
-ghost use Rattle.cim_words.specs.IdText.{id_iri};
-ghost use Rattle.cim_words.specs.Prop.{prop_iri, is_proper_prop};
-ghost use Rattle.cim_words.specs.Written.{iri_spelling, literal_spelling, written_line, written_object};
-ghost use Rattle.cim_words.specs.Held.{IsHeld, IsStatement};
-ghost use Rattle.cim_words.specs.Object.{is_proper_object};
-ghost use Rattle.cim_words.specs.declared.identifier.Id.{Id};
-ghost use Rattle.cim_words.specs.declared.prop.Prop.{Prop};
-ghost use Rattle.nt_text.specs.Spelling.{spelling_of};
-ghost use Rattle.nt_text.specs.declared.spelling.Coding.{Coding};
+ghost use Rattle.std.specs.Prelude.{ℕ, List, ◌≡◌, ◌≢◌, ◌↔◌, ◌≤◌, ◌<◌, ◌^◌, length, IfOk, IfErr, IfSome, IfNone, IsTrue};
+ghost use Rattle.cim_words.specs.Held.{IsStatement};
+ghost use Rattle.cim_words.specs.Written.{written_line};
 ghost use Rattle.cim_words.specs.declared.statement.Statement.{Statement};
+ghost use Rattle.nt_text.specs.Ends.{IsSayingFault, IsStatementFault, text_length};
+ghost use Rattle.nt_text.specs.Reading.{Reading, holds, IsReading, Says, told, line_limit};
 
-use crate::token::{between, front_byte, parts_of};
+use crate::refusal::{LineFault, LineRefusal};
+use crate::run::is_empty_line;
+use crate::triple::triple_of;
 use crate::writing::line_of;
-use cim_words::{Id, NoMemory, Object, Prop, Statement, Word};
+use cim_words::{Id, NoMemory, Object, Prop, Statement};
 use std::alloc::Global;
 
-/// The bytes of the text that is spelled so.
-fn unspelled(alloc: Global, spelled: &[u8]) -> Result<Option<Vec<u8>>, NoMemory>
-    ensures { (coding : Coding) (text : List ℕ) → spelled.now ≡ flat_map (spelling_of coding) text
-        → IfOk result (λ o. IsSomeAnd o (λ bytes. bytes.items ≡ text)) }
-{
-    let mut text = Vec::with_capacity(alloc, spelled.len())?;
-    let mut rest = spelled;
-    while !rest.is_empty() {
-        let Some((byte, after)) = front_byte(rest) else {
-            return Ok(None);
-        };
-        text.push(byte)?;
-        rest = after;
-    }
-    Ok(Some(text))
-}
+/// The most bytes that a line may have without its end.
+pub const LINE_LIMIT: usize = 8192;
 
-/// The text that is spelled so.
-fn text_of(alloc: Global, spelled: &[u8]) -> Result<Option<String>, NoMemory>
-    ensures { (coding : Coding) (text : List ℕ) → IsUtf8 text → spelled.now ≡ flat_map (spelling_of coding) text
-        → IfOk result (λ o. IsSomeAnd o (λ found. string_bytes found ≡ text)) }
+/// So many bytes of texts never make a written line too long: each is spelled by six at most, and the rest takes 100.
+const NARROW: usize = (LINE_LIMIT - 100) / 6;
+
+fn text_length(object: &Object) -> usize
+    ensures value { result ≡ text_length object.now }
+    ensures small { result < 2 ^ 63 }
 {
-    match unspelled(alloc, spelled)? {
-        Some(bytes) => Ok(String::from_utf8(bytes).ok()),
-        None => Ok(None),
+    match object {
+        Object::Id(_) => 0,
+        Object::Name(word) | Object::Text(word) => word.text().len(),
     }
 }
 
-/// The identifier that the IRI spelled so spells.
-fn subject_of(alloc: Global, spelled: &[u8]) -> Result<Option<Id>, NoMemory>
-    ensures { (id : Id) → id.number < 2 ^ 128 → spelled.now ≡ flat_map iri_spelling (id_iri id.number) → IfOk result (λ o. o ≡ Some id) }
+/// Whether the written line of a statement is too long.
+fn is_wide(alloc: Global, statement: &Statement) -> Result<bool, NoMemory>
+    ensures { IfOk result (λ wide. IsTrue wide ↔ (line_limit < length (written_line statement.now))) }
 {
-    match text_of(alloc, spelled)? {
-        Some(iri) => Ok(Id::read_iri(iri.as_str()).ok()),
-        None => Ok(None),
+    if statement.prop.iri().len() + text_length(&statement.object) <= NARROW {
+        return Ok(false);
+    }
+    Ok(line_of(alloc, statement)?.len() > LINE_LIMIT)
+}
+
+/// The statement that a line says by its triple.
+fn said_by(alloc: Global, line: &[u8]) -> Result<Statement, LineFault>
+    ensures says { IfOk result (Says line.now) }
+    ensures held { IfOk result IsStatement }
+    ensures cause { IfErr result (IsSayingFault line.now) }
+{
+    let triple = triple_of(alloc, line)?;
+    let Ok(subject) = Id::read_iri(triple.subject.as_str()) else {
+        return Err(LineFault::Refusal(LineRefusal::Subject));
+    };
+    Ok(Statement {
+        subject,
+        prop: Prop::of_iri(alloc, triple.property.as_str())?,
+        object: triple.object,
+    })
+}
+
+/// The statement of a line that holds one.
+fn statement_in(alloc: Global, line: &[u8]) -> Result<Statement, LineFault>
+    ensures says { IfOk result (Says line.now) }
+    ensures narrow { IfOk result (λ s. length (written_line s) ≤ line_limit) }
+    ensures held { IfOk result IsStatement }
+    ensures cause { IfErr result (IsStatementFault line.now) }
+{
+    let statement = said_by(alloc, line)?;
+    if is_wide(alloc, &statement)? {
+        return Err(LineFault::Refusal(LineRefusal::Wide));
+    }
+    Ok(statement)
+}
+
+/// Reads one line without its end: the statement that it holds, or none where it says nothing (RDF 1.1 N-Triples).
+pub fn read_line(alloc: Global, line: &[u8]) -> Result<Option<Statement>, LineFault>
+    // The line reads as this, and as nothing else.
+    ensures reads { IfSome (told result) (IsReading line.now) }
+    ensures only { (reading : Reading) → IsReading line.now reading → IfSome (told result) (λ t. t ≡ reading) }
+    ensures held { IfOk result (λ o. IfSome o IsStatement) }
+{
+    if line.len() > LINE_LIMIT {
+        return Err(LineFault::Refusal(LineRefusal::LineTooLong));
+    }
+    if str::from_utf8(line).is_err() {
+        return Err(LineFault::Refusal(LineRefusal::Utf8));
+    }
+    if is_empty_line(line) {
+        return Ok(None);
+    }
+    match statement_in(alloc, line) {
+        Ok(statement) => Ok(Some(statement)),
+        Err(fault) => Err(fault),
     }
 }
 
-/// The property whose IRI is spelled so.
-fn prop_of(alloc: Global, spelled: &[u8]) -> Result<Option<Prop>, NoMemory>
-    ensures proper { IfOk result (λ o. IfSome o (λ prop. IsTrue (is_proper_prop prop))) }
-    ensures held { IfOk result (λ o. IfSome o (λ prop. IsUtf8 (prop_iri prop))) }
-    ensures only { (prop : Prop) → IsUtf8 (prop_iri prop) → IsTrue (is_proper_prop prop) → spelled.now ≡ flat_map iri_spelling (prop_iri prop)
-        → IfOk result (λ o. o ≡ Some prop) }
-{
-    match text_of(alloc, spelled)? {
-        Some(iri) => Ok(Some(Prop::of_iri(alloc, iri.as_str())?)),
-        None => Ok(None),
-    }
-}
-
-/// The object that the IRI spelled so names.
-fn named_of(alloc: Global, spelled: &[u8]) -> Result<Option<Object>, NoMemory>
-    ensures proper { IfOk result (λ o. IfSome o (λ object. IsTrue (is_proper_object object))) }
-    ensures held { IfOk result (λ o. IfSome o IsHeld) }
-    ensures id { (id : Id) → id.number < 2 ^ 128 → spelled.now ≡ flat_map iri_spelling (id_iri id.number) → IfOk result (λ o. o ≡ Some (Object.Id id)) }
-    ensures name { (text : List ℕ) → IsUtf8 text → IsTrue (is_proper_object (Object.Name text)) → spelled.now ≡ flat_map iri_spelling text
-        → IfOk result (λ o. o ≡ Some (Object.Name text)) }
-{
-    match text_of(alloc, spelled)? {
-        Some(iri) => Ok(Some(Object::of_iri(alloc, iri.as_str())?)),
-        None => Ok(None),
-    }
-}
-
-/// The literal whose characters are spelled so.
-fn literal_of(alloc: Global, spelled: &[u8]) -> Result<Option<Object>, NoMemory>
-    ensures proper { IfOk result (λ o. IfSome o (λ object. IsTrue (is_proper_object object))) }
-    ensures held { IfOk result (λ o. IfSome o IsHeld) }
-    ensures only { (text : List ℕ) → IsUtf8 text → spelled.now ≡ flat_map literal_spelling text → IfOk result (λ o. o ≡ Some (Object.Text text)) }
-{
-    match text_of(alloc, spelled)? {
-        Some(text) => Ok(Some(Object::Text(Word::of(alloc, text.as_str())?))),
-        None => Ok(None),
-    }
-}
-
-/// The object that is written so.
-fn object_of(alloc: Global, written: &[u8]) -> Result<Option<Object>, NoMemory>
-    ensures proper { IfOk result (λ o. IfSome o (λ object. IsTrue (is_proper_object object))) }
-    ensures held { IfOk result (λ o. IfSome o IsHeld) }
-    ensures only { (object : Object) → IsHeld object → IsTrue (is_proper_object object) → written.now ≡ written_object object
-        → IfOk result (λ o. o ≡ Some object) }
-{
-    if let Some(iri) = between(b'<', b'>', written) {
-        named_of(alloc, iri)
-    } else if let Some(characters) = between(b'"', b'"', written) {
-        literal_of(alloc, characters)
-    } else {
-        Ok(None)
-    }
-}
-
-/// The statement whose line this is, where it is the line of one.
-fn statement_of(alloc: Global, line: &[u8]) -> Result<Option<Statement>, NoMemory>
+/// The statement that a line says, or none where it says none.
+fn said_alone(alloc: Global, line: &[u8]) -> Result<Option<Statement>, NoMemory>
     ensures held { IfOk result (λ o. IfSome o IsStatement) }
     ensures only { (s : Statement) → IsStatement s → line.now ≡ written_line s → IfOk result (λ o. o ≡ Some s) }
 {
-    let Some((subject, prop, object)) = parts_of(line) else {
-        return Ok(None);
-    };
-    let Some(subject) = subject_of(alloc, subject)? else {
-        return Ok(None);
-    };
-    let Some(prop) = prop_of(alloc, prop)? else {
-        return Ok(None);
-    };
-    let Some(object) = object_of(alloc, object)? else {
-        return Ok(None);
-    };
-    Ok(Some(Statement {
-        subject,
-        prop,
-        object,
-    }))
+    match said_by(alloc, line) {
+        Ok(statement) => Ok(Some(statement)),
+        Err(LineFault::Refusal(_)) => Ok(None),
+        Err(LineFault::NoMemory) => Err(NoMemory),
+    }
 }
 
 /// Reads the statement of which the line, without its line feed, is the written form. No other spelling is read.
@@ -143,7 +112,7 @@ pub fn read_written(alloc: Global, line: &[u8]) -> Result<Option<Statement>, NoM
     ensures only { (s : Statement) → IsStatement s → line.now ≡ written_line s → IfOk result (λ o. o ≡ Some s) }
     ensures none { IfOk result (λ o. IfNone o ((s : Statement) → IsStatement s → line.now ≢ written_line s)) }
 {
-    let Some(statement) = statement_of(alloc, line)? else {
+    let Some(statement) = said_alone(alloc, line)? else {
         return Ok(None);
     };
     // There is one spelling: the line is right where writing the statement gives it back.
@@ -153,3 +122,13 @@ pub fn read_written(alloc: Global, line: &[u8]) -> Result<Option<Statement>, NoM
         Ok(None)
     }
 }
+
+/// A line reads in one way.
+pub fn lines_have_one_reading()
+    ensures { (line : List ℕ) (a b : Reading) → IsReading line a → IsReading line b → a ≡ b }
+{}
+
+/// The written line of a statement reads as that statement.
+pub fn written_lines_are_read()
+    ensures { (s : Statement) → IsStatement s → length (written_line s) ≤ line_limit → IsReading (written_line s) (holds s) }
+{}

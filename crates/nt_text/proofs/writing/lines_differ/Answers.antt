@@ -1,4 +1,4 @@
-use Rattle.nt_text.proofs.OneLine.{one_line}
+use Rattle.nt_text.proofs.WrittenLines.{one_line}
 use Rattle.nt_text.proofs.writing.lines_differ.Goals as goal
 
 pub returns : goal.returns

@@ -3,7 +3,7 @@ use Rattle.nt_text.specs.Reading.{nothing, holds}
 use Rattle.nt_text.proofs.LineReads.{is_utf8_text, fault_reads}
 use Rattle.nt_text.proofs.OneReading.{one_reading, told_only}
 use Rattle.nt_text.proofs.Triples.{denied}
-use Rattle.nt_text.proofs.line.read_line.Goals as goal
+use Rattle.nt_text.proofs.reading.read_line.Goals as goal
 
 pub returns-then-is_empty_line-clause-only : goal.returns-then-is_empty_line-clause-only
 returns-then-is_empty_line-clause-only c reading is =

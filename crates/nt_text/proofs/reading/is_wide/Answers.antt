@@ -2,7 +2,7 @@ use Rattle.std.proofs.Common.{◌≡◌, ◌≤◌, ◌+◌, length, true, false
 use Rattle.cim_words.specs.Prop.{prop_iri}
 use Rattle.nt_text.specs.Ends.{text_length}
 use Rattle.nt_text.proofs.Widths.{line_length}
-use Rattle.nt_text.proofs.line.is_wide.Goals as goal
+use Rattle.nt_text.proofs.reading.is_wide.Goals as goal
 
 pub returns-then-iri-text_length-le-NARROW : goal.returns-then-iri-text_length-le-NARROW
 returns-then-iri-text_length-le-NARROW c =
