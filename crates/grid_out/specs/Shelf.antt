@@ -3,8 +3,8 @@ use Rattle.std.specs.Prelude.{ℕ, Bool, true, false, ◌||◌, List, [], Option
 use Rattle.grid_out.specs.Faults.{next_count, count_after, is_listed}
 use Rattle.grid_out.specs.Files.{content_of}
 use Rattle.grid_out.specs.Notes.{Grows}
-use Rattle.grid_out.specs.declared.reading.ShelfFault.{ShelfFault}
-use Rattle.grid_out.specs.declared.reading.ShelfFault.TheVariants.{Failed, Longer, NoMemory}
+use Rattle.grid_out.specs.declared.shelf.ShelfFault.{ShelfFault}
+use Rattle.grid_out.specs.declared.shelf.ShelfFault.TheVariants.{Failed, Longer, NoMemory}
 
 -- whether a read was answered by a fault of the outside
 abbrev pub is_failed : Result (Unit {0}) ShelfFault → Bool

@@ -8,7 +8,7 @@ ghost use Rattle.grid_out.specs.Shelf.{AsksFor, is_failed, shelf_after, shelf_fa
 use crate::failure::NoMemory;
 use crate::file_list::Files;
 use crate::notes::Notes;
-use crate::reading::{Shelf, ShelfFault, copy_within};
+use crate::shelf::{Shelf, ShelfFault, copy_within};
 use std::alloc::Global;
 use std::marker::Model;
 

@@ -6,7 +6,7 @@ ghost use Rattle.grid_out.specs.Sink.{Gains, GainsPrefix, Hands, sink_after, sin
 
 use crate::failure::{Failed, NoMemory};
 use crate::notes::Notes;
-use crate::writing::Sink;
+use crate::sink::Sink;
 use std::alloc::Global;
 use std::marker::Model;
 

@@ -7,8 +7,8 @@ ghost use Rattle.grid_out.specs.Shelf.{AsksFor, is_failed, content_or_empty};
 use crate::failure::Failed;
 use crate::file_list::Files;
 use crate::notes::Notes;
-use crate::reading::{Shelf, ShelfFault, copy_within};
-use crate::writing::Sink;
+use crate::shelf::{Shelf, ShelfFault, copy_within};
+use crate::sink::Sink;
 use std::marker::Model;
 
 /// A shelf that never fails. A name that it lacks reads as an empty content.

@@ -1,8 +1,8 @@
 -- From what is known of the bytes that were read to the answer.
 use Rattle.std.proofs.Common.{◌≡◌, ◌≢◌, ◌⊎◌, ℕ, ◌<◌, inl, inr, List, [], ◌∷◌, length, Option, Some, None, Result, Ok, Err, IfOk, IfSome, IfErr, Vec, Global, refl, sym, subst}
 use Rattle.grid_out.specs.Sink.{Gains, Hands}
-use Rattle.grid_out.specs.declared.reading.ShelfFault.{ShelfFault}
-use Rattle.grid_out.specs.declared.reading.ShelfFault.TheVariants as fault
+use Rattle.grid_out.specs.declared.shelf.ShelfFault.{ShelfFault}
+use Rattle.grid_out.specs.declared.shelf.ShelfFault.TheVariants as fault
 use Rattle.room.specs.Base.{IsBase, RefusesBase, base_limit}
 use Rattle.room.specs.Refusal.{IfRefusal, failure_of_read}
 use Rattle.room.specs.Run.{Answers, Asks, Explains, GainsAtMost, HasAnswer, IsTold, IsUntold, Writes, pieces_of}

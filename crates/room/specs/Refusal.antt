@@ -1,6 +1,6 @@
 -- Refusals, and what an error of the crates below means here.
-use Rattle.grid_out.specs.declared.reading.ShelfFault.{ShelfFault}
-use Rattle.grid_out.specs.declared.reading.ShelfFault.TheVariants as fault
+use Rattle.grid_out.specs.declared.shelf.ShelfFault.{ShelfFault}
+use Rattle.grid_out.specs.declared.shelf.ShelfFault.TheVariants as fault
 use Rattle.nt_text.specs.declared.refusal.NtFault.{NtFault}
 use Rattle.nt_text.specs.declared.refusal.NtFault.TheVariants as nt_fault
 use Rattle.statement_set.specs.declared.refusal.SetRefusal.{SetRefusal}

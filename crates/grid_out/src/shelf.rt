@@ -3,7 +3,7 @@
 ghost use Rattle.std.specs.Prelude.{◌≡◌, ℕ, ◌≤◌, ◌<◌, ◌↔◌, List, [], ◌∷◌, length, Option, IfSome, OnOk, OnErr, IsErrOf, false};
 ghost use Rattle.grid_out.specs.Faults.{CountsFaults};
 ghost use Rattle.grid_out.specs.Shelf.{AsksFor, is_failed};
-ghost use Rattle.grid_out.specs.declared.reading.ShelfFault.TheVariants.{NoMemory as no_memory};
+ghost use Rattle.grid_out.specs.declared.shelf.ShelfFault.TheVariants.{NoMemory as no_memory};
 
 use crate::failure::NoMemory;
 use thiserror::Error;
