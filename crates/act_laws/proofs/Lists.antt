@@ -5,8 +5,9 @@ use Rattle.std.proofs.lemmas.Bool.Decides.{nat_tests}
 use Rattle.std.proofs.lemmas.List.{get_or-map, length-map}
 use Rattle.std.proofs.lemmas.List.Kept.{AllPairs-cons}
 use Rattle.cim_model.specs.Network.{first}
-use Rattle.cim_model.proofs.ListMembers.{Among, among_contained, among_either, contains_among}
+use Rattle.cim_model.proofs.ListMembers.{Among, among_any, among_contained, among_either, contains_among}
 use Rattle.cim_model.proofs.Pairs.{among_index}
+use Rattle.cim_model.proofs.Runs.{not_true}
 use Rattle.cim_model.proofs.SaidLemmas.{both, both_left, both_right}
 
 -- ---- a part of a list: some of its elements, in their order
@@ -161,6 +162,9 @@ none_passes p (y ∷ xs) each = neither_passes (p y) (list_any p xs) (each y (in
     neither_passes : (a b : Bool) → a ≡ false → b ≡ false → (a || b) ≡ false
     neither_passes true b first rest = first
     neither_passes false b first rest = rest
+
+pub any_fails : {X : Type 0} (p : X → Bool) (xs : List X) (x : X) → list_any p xs ≡ false → Among xs x → p x ≡ false
+any_fails p xs x none there = not_true (p x) (λ passes. let no : true ≡ false = sym (among_any p xs x there passes) ∙ none in cc)
 
 pub all_pass : {X : Type 0} (p : X → Bool) (xs : List X) → ((x : X) → Among xs x → p x ≡ true) → list_all p xs ≡ true
 all_pass p [] each = refl

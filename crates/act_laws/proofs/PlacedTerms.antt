@@ -36,6 +36,7 @@ use Rattle.room_words.specs.declared.overlay.Overlay.{Overlay}
 use Rattle.room_words.specs.declared.overlay.Position.{Position}
 use Rattle.room_words.specs.declared.term.Term.{Term}
 use Rattle.segment_cuts.specs.declared.mark.Mark.{Mark}
+use Rattle.act_laws.proofs.Makers.{maker_number}
 use Rattle.act_laws.proofs.Lists.{HasLeast, all_pass, has_least, none_found, none_passes, pairs_joined, pairs_one}
 use Rattle.act_laws.proofs.Passed.{CanBePlaced}
 use Rattle.act_laws.proofs.Still.{Bears, Takes, some_follows, still}
@@ -49,23 +50,7 @@ still_place m o one (anchor.Side id number) is =
     let maker = any_among (makes (anchor.Side id number)) o.items is in
     among_any (makes (anchor.Side id number)) (o.items ++ one ∷ []) maker.0 (among_left o.items (one ∷ []) maker.0 maker.1) maker.2
 
--- a side that an item makes is its own
-maker_number : (one : TempItem) (id : Id) (number : ℕ) → makes (anchor.Side id number) one ≡ true → item_number one ≡ id.number
-maker_number (item.Cut cut segment at is_open) id number is = elim (either (id.number == cut.number && number == 1) _ is) [
-  | inl first ↦ sym (same_number id.number cut.number (both_left (id.number == cut.number) _ first))
-  | inr more ↦ elim (either (id.number == cut.number && number == 2) false more) [
-    | inl second ↦ sym (same_number id.number cut.number (both_left (id.number == cut.number) _ second))
-    | inr none ↦ absurd cc
-  ]
-]
-maker_number (item.Clamp clamp segment at) id number is = elim (either (id.number == clamp.number && number == 1) false is) [
-  | inl first ↦ sym (same_number id.number clamp.number (both_left (id.number == clamp.number) _ first))
-  | inr none ↦ absurd cc
-]
-maker_number (item.Jumper jumper first second phases is_open) id number is = absurd cc
-maker_number (item.Ground ground at phases) id number is = absurd cc
-
--- so no place is a side of an item that is not there yet
+-- no place is a side of an item that is not there yet
 no_maker : (o : Overlay) (id : Id) (place : Id) (number : ℕ) → item_of o id.number ≡ None → list_any (makes (anchor.Side place number)) o.items ≡ true → id.number ≡ place.number → ⊥
 no_maker o id place number fresh made same =
     let maker = any_among (makes (anchor.Side place number)) o.items made in
