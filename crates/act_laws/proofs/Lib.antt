@@ -1,3 +1,4 @@
+pub mod Accepted
 pub mod Lists
 pub mod Makers
 pub mod Passed
