@@ -1,5 +1,5 @@
 -- An act that passes leaves an overlay that stands, act by act.
-use Rattle.std.proofs.Common.{◌≡◌, inl, inr, List, [], ◌∷◌, Bool, true, false, ◌||◌, cond, Option, Some, None, is_some, option_map, unwrap_or, find, refl}
+use Rattle.std.proofs.Common.{◌≡◌, inl, inr, List, Bool, true, false, ◌||◌, cond, Option, Some, None, is_some, option_map, unwrap_or, find}
 use Rattle.std.specs.List.{IsDistinct}
 use Rattle.cim_words.specs.Groups.{is_switch}
 use Rattle.cim_words.specs.declared.identifier.Id.{Id}
@@ -17,7 +17,8 @@ use Rattle.room_words.specs.declared.act.Act.TheVariants as act
 use Rattle.room_words.specs.declared.items.TempItem.{TempItem}
 use Rattle.room_words.specs.declared.items.TempItem.TheVariants as item
 use Rattle.room_words.specs.declared.overlay.Overlay.{Overlay}
-use Rattle.act_laws.proofs.Passed.{Passed, can_be_placed, is_so, not_refused, unmapped}
+use Rattle.act_laws.proofs.Lists.{unmapped}
+use Rattle.act_laws.proofs.Passed.{Passed, can_be_placed, is_so, not_refused}
 use Rattle.act_laws.proofs.Placed.{placed_overlay}
 use Rattle.act_laws.proofs.Positions.{in_force, put_overlay, released_overlay}
 use Rattle.act_laws.proofs.Removed.{removed_overlay}

@@ -1,14 +1,14 @@
--- Facts on bare lists: parts of a list, relations that hold of any two, and tests that nothing passes.
-use Rattle.std.proofs.Common.{◌≡◌, ℕ, suc, ◌+◌, ◌<◌, ◌≤◌, ◌⊎◌, inl, inr, List, [], ◌∷◌, ◌++◌, map, length, get_or, Bool, true, false, ◌||◌, cond, nat_le, Option, Some, None, find, refl, ap, sym, ◌∙◌, subst, arith, length-append}
+-- Facts on bare lists and options: parts of a list, relations that hold of any two, and tests that nothing passes.
+use Rattle.std.proofs.Common.{◌≡◌, ℕ, suc, ◌+◌, ◌<◌, ◌≤◌, ◌⊎◌, inl, inr, List, [], ◌∷◌, ◌++◌, map, length, get_or, Bool, true, false, ◌||◌, cond, nat_le, Option, Some, None, IfSome, find, is_some, option_map, refl, ap, sym, ◌∙◌, subst, arith, length-append}
 use Rattle.std.specs.List.{All, AllByRecursion, AllPairs, cons_option, filter, filter_map, flat_map, list_all, list_any, position_from}
 use Rattle.std.proofs.lemmas.Bool.Decides.{nat_tests}
 use Rattle.std.proofs.lemmas.List.{get_or-map, length-map}
 use Rattle.std.proofs.lemmas.List.Kept.{AllPairs-cons}
 use Rattle.cim_model.specs.Network.{first}
-use Rattle.cim_model.proofs.ListMembers.{Among, among_any, among_contained, among_either, contains_among}
+use Rattle.cim_model.proofs.ListMembers.{Among, among_any, among_either, contains_among}
 use Rattle.cim_model.proofs.Pairs.{among_index}
 use Rattle.cim_model.proofs.Runs.{not_true}
-use Rattle.cim_model.proofs.SaidLemmas.{both, both_left, both_right}
+use Rattle.cim_model.proofs.SaidLemmas.{both}
 
 -- ---- a part of a list: some of its elements, in their order
 
@@ -205,3 +205,21 @@ lesser_of n x y xs false is there least = record {
 pub has_least : {X : Type 0} (n : X → ℕ) (x : X) (xs : List X) → HasLeast n (x ∷ xs)
 has_least n x [] = record { one = x; listed = inl refl; least = λ other has. elim has [ inl same ↦ subst (λ (z : _). n x ≤ n z) same (omega arith) | inr none ↦ absurd none ] }
 has_least n x (y ∷ xs) = let rest = has_least n y xs in lesser_of n x rest.one (y ∷ xs) (nat_le (n x) (n rest.one)) refl rest.listed rest.least
+
+-- ---- what there may be
+
+pub some_follows : {X : Type 0} (P Q : X → Type 0) (found : Option X) → ((x : X) → P x → Q x) → IfSome found P → IfSome found Q
+some_follows P Q None follows is = tt
+some_follows P Q (Some x) follows is = follows x is
+
+pub some_always : {X : Type 0} (P : X → Type 0) (found : Option X) → ((x : X) → P x) → IfSome found P
+some_always P None always = tt
+some_always P (Some x) always = always x
+
+pub none_there : {X : Type 0} (found : Option X) → is_some found ≡ false → found ≡ None
+none_there None is = refl
+none_there (Some x) is = absurd cc
+
+pub unmapped : {X Y : Type 0} (f : X → Y) (found : Option X) → option_map f found ≡ None → found ≡ None
+unmapped f None none = refl
+unmapped f (Some x) none = absurd cc

@@ -1,6 +1,6 @@
 -- What an accepted act passes: none of the fourteen refusals holds, and what that says of an item that is placed.
-use Rattle.std.proofs.Common.{◌≡◌, ℕ, ◌+◌, ◌<◌, ◌≤◌, List, length, Bool, true, false, not, ◌||◌, ◌&&◌, cond, nat_le, nat_lt, Option, Some, None, IfSome, is_some, find, option_map, refl, ap, sym, ◌∙◌, arith}
-use Rattle.std.specs.List.{AllByRecursion, IsDistinct, position_from}
+use Rattle.std.proofs.Common.{◌≡◌, ℕ, ◌+◌, ◌<◌, ◌≤◌, List, length, Bool, true, false, not, ◌&&◌, nat_le, nat_lt, Option, Some, None, IfSome, is_some, option_map, refl, arith}
+use Rattle.std.specs.List.{IsDistinct, position_from}
 use Rattle.std.specs.Option.{option_map_or}
 use Rattle.std.proofs.lemmas.Bool.Decides.{nat_tests}
 use Rattle.cim_words.specs.Groups.{is_segment}
@@ -14,7 +14,7 @@ use Rattle.cim_model.specs.Live.{is_place, item_segment_number, terms_at}
 use Rattle.cim_model.specs.Marks.{marks_on}
 use Rattle.cim_model.specs.Model.{is_of, is_subject}
 use Rattle.cim_model.specs.Network.{length_in, or_else}
-use Rattle.cim_model.specs.Refusals.{already, anchor_id, beyond, crowded, crowded_place, crowded_segment, full, in_the_way, in_use, is_beyond, is_taken, kind, marks_at, no_anchor, no_phase, not_held, not_segment, one_anchor, permanent, refusal_of, refusals, refused_if, same_place, taken, unknown}
+use Rattle.cim_model.specs.Refusals.{already, beyond, crowded, crowded_place, crowded_segment, full, in_the_way, in_use, is_beyond, is_taken, kind, marks_at, no_anchor, no_phase, not_held, not_segment, one_anchor, permanent, refusal_of, refusals, refused_if, same_place, taken, unknown}
 use Rattle.cim_model.specs.Stands.{LiesOn}
 use Rattle.cim_model.specs.Values.{number_of_id}
 use Rattle.cim_model.proofs.ListMembers.{Among}
@@ -29,7 +29,7 @@ use Rattle.room_words.specs.declared.anchor.Anchor.{Anchor}
 use Rattle.room_words.specs.declared.items.TempItem.{TempItem}
 use Rattle.room_words.specs.declared.overlay.Overlay.{Overlay}
 use Rattle.segment_cuts.specs.declared.mark.Mark.{Mark}
-use Rattle.act_laws.proofs.Lists.{no_first, none_at, none_found}
+use Rattle.act_laws.proofs.Lists.{no_first, none_at, none_found, none_there, unmapped}
 
 -- ---- none of the refusals holds
 
@@ -79,14 +79,6 @@ not_refused false why none = refl
 pub is_so : (b : Bool) → not b ≡ false → b ≡ true
 is_so true is = refl
 is_so false is = absurd cc
-
-pub none_there : {X : Type 0} (found : Option X) → is_some found ≡ false → found ≡ None
-none_there None is = refl
-none_there (Some x) is = absurd cc
-
-pub unmapped : {X Y : Type 0} (f : X → Y) (found : Option X) → option_map f found ≡ None → found ≡ None
-unmapped f None none = refl
-unmapped f (Some x) none = absurd cc
 
 -- what is there passes a test that refuses
 each_there : {X : Type 0} (P : X → Type 0) (f : X → Option ActRefusal) (found : Option X) → ((x : X) → f x ≡ None → P x) → and_then found f ≡ None → IfSome found P

@@ -1,50 +1,31 @@
 -- An item that can be placed stands at the end, and all other items still stand.
-use Rattle.std.proofs.Common.{◌≡◌, ◌↔◌, ℕ, ◌+◌, ◌<◌, ◌≤◌, ◌⊎◌, inl, inr, List, [], ◌∷◌, ◌++◌, map, length, Bool, true, false, ◌&&◌, ◌==◌, cond, nat_eq, nat_le, IsTrue, Option, Some, None, IfSome, Contains, is_some, find, refl, ap, sym, ◌∙◌, subst, arith, length-append, append_assoc, append-nil}
-use Rattle.std.specs.List.{AllPairs, IsDistinct, filter, filter_map, flat_map, list_all, list_any}
+use Rattle.std.proofs.Common.{◌≡◌, ℕ, ◌<◌, ◌≤◌, inl, inr, List, [], ◌∷◌, ◌++◌, map, length, false, ◌==◌, nat_eq, None, IfSome, Contains, sym, subst, arith, length-append}
+use Rattle.std.specs.List.{IsDistinct, list_any}
 use Rattle.std.proofs.lemmas.Bool.Decides.{nat_tests}
 use Rattle.std.proofs.lemmas.Cmp.{nat_eq_equiv}
-use Rattle.std.proofs.lemmas.Grind.{flat_map-append}
-use Rattle.std.proofs.lemmas.List.{map-append, length-map}
-use Rattle.std.proofs.lemmas.List.Elements.{filter-append, filter_map-append}
+use Rattle.std.proofs.lemmas.List.{map-append}
 use Rattle.std.proofs.lemmas.Map.Keys.{IsDistinct-push}
-use Rattle.std.proofs.lemmas.Option.{same_Some}
-use Rattle.cim_words.specs.Limits.{most_at_place, most_items, most_marks}
-use Rattle.cim_words.specs.declared.identifier.Id.{Id}
-use Rattle.cim_words.specs.declared.length.Length.{Length}
+use Rattle.cim_words.specs.Limits.{most_marks}
 use Rattle.cim_words.specs.declared.phases.PhaseSet.{PhaseSet}
 use Rattle.cim_words.specs.declared.statement.Statement.{Statement}
 use Rattle.cim_words.specs.Phases.{has_no_phase}
-use Rattle.cim_model.specs.Live.{is_place, item_segment_number, real_terms_at, terms_at}
-use Rattle.cim_model.specs.Marks.{is_item_on, item_mark, item_marks, marks_of, marks_on}
-use Rattle.cim_model.specs.Model.{is_of}
-use Rattle.cim_model.specs.Refusals.{in_the_way, least, marks_at}
-use Rattle.cim_model.specs.Stands.{AreApart, ItemStands, PositionStands, Stands}
-use Rattle.cim_model.proofs.ListMembers.{Among, among_any, among_contained, among_either, among_filter, among_left, any_among, contains_among, find_among, map_among}
+use Rattle.cim_model.specs.Live.{item_segment_number}
+use Rattle.cim_model.specs.Marks.{marks_on}
+use Rattle.cim_model.specs.Stands.{AreApart, ItemStands, Stands}
+use Rattle.cim_model.proofs.ListMembers.{among_contained, among_either, contains_among, map_among}
 use Rattle.cim_model.proofs.LiveMarks.{live_marks}
-use Rattle.cim_model.proofs.MarkLists.{is_this}
-use Rattle.cim_model.proofs.OverlayItems.{IsLive, if_some}
-use Rattle.cim_model.proofs.Runs.{either, not_true, number_itself, same_number}
-use Rattle.cim_model.proofs.SaidLemmas.{both_left}
-use Rattle.room_words.specs.Items.{anchors, side, item_length, item_number, item_phases, item_terms_at, makes, own_places, standing, term_in}
+use Rattle.cim_model.proofs.OverlayItems.{IsLive}
+use Rattle.room_words.specs.Items.{anchors, item_number, item_phases}
 use Rattle.room_words.specs.Overlay.{item_of}
 use Rattle.room_words.specs.Terms.{same_anchor}
 use Rattle.room_words.specs.declared.anchor.Anchor.{Anchor}
-use Rattle.room_words.specs.declared.anchor.Anchor.TheVariants as anchor
 use Rattle.room_words.specs.declared.items.TempItem.{TempItem}
-use Rattle.room_words.specs.declared.items.TempItem.TheVariants as item
 use Rattle.room_words.specs.declared.overlay.Overlay.{Overlay}
-use Rattle.room_words.specs.declared.overlay.Position.{Position}
-use Rattle.room_words.specs.declared.term.Term.{Term}
-use Rattle.segment_cuts.specs.declared.mark.Mark.{Mark}
-use Rattle.act_laws.proofs.Lists.{HasLeast, all_pass, has_least, none_found, none_passes, pairs_joined, pairs_one}
+use Rattle.act_laws.proofs.Lists.{none_found, none_passes, some_always, some_follows}
 use Rattle.act_laws.proofs.Passed.{CanBePlaced}
-use Rattle.act_laws.proofs.Still.{Bears, Takes, some_follows, still}
+use Rattle.act_laws.proofs.Still.{still}
 use Rattle.act_laws.proofs.PlacedMarks.{bears, with_item}
 use Rattle.act_laws.proofs.PlacedTerms.{takes}
-
-some_always : {X : Type 0} (P : X → Type 0) (found : Option X) → ((x : X) → P x) → IfSome found P
-some_always P None always = tt
-some_always P (Some x) always = always x
 
 -- ---- the items
 
@@ -78,13 +59,13 @@ each_of P items one others own other there = elim (among_either items (one ∷ [
 
 -- ---- their identifiers
 
-turned : (m n : ℕ) → (m == n) ≡ false → nat_eq n m ≡ false
-turned m n is = grind (arith, nat_tests)
+differ : (m n : ℕ) → (m == n) ≡ false → nat_eq n m ≡ false
+differ m n is = grind (arith, nat_tests)
 
 other_numbers : (o : Overlay) (n : ℕ) → item_of o n ≡ None → list_any (nat_eq n) (map item_number o.items) ≡ false
 other_numbers o n fresh = none_passes (nat_eq n) (map item_number o.items) (λ k there.
     let from = map_among item_number o.items k there in
-    subst (λ (k : ℕ). nat_eq n k ≡ false) from.2 (turned (item_number from.0) n (none_found (λ (one : TempItem). item_number one == n) o.items from.0 fresh from.1)))
+    subst (λ (k : ℕ). nat_eq n k ≡ false) from.2 (differ (item_number from.0) n (none_found (λ (one : TempItem). item_number one == n) o.items from.0 fresh from.1)))
 
 -- ---- an overlay with one more item
 

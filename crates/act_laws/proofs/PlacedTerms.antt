@@ -1,31 +1,15 @@
 -- The places once an item is placed, and the terminals at each: one more at an anchor of the item, and else no more.
-use Rattle.std.proofs.Common.{◌≡◌, ◌↔◌, ℕ, ◌+◌, ◌<◌, ◌≤◌, ◌⊎◌, inl, inr, List, [], ◌∷◌, ◌++◌, map, length, Bool, true, false, ◌&&◌, ◌==◌, cond, nat_eq, nat_le, IsTrue, Option, Some, None, IfSome, Contains, is_some, find, refl, ap, sym, ◌∙◌, subst, arith, length-append, append_assoc, append-nil}
-use Rattle.std.specs.List.{AllPairs, IsDistinct, filter, filter_map, flat_map, list_all, list_any}
-use Rattle.std.proofs.lemmas.Bool.Decides.{nat_tests}
-use Rattle.std.proofs.lemmas.Cmp.{nat_eq_equiv}
+use Rattle.std.proofs.Common.{◌≡◌, ◌↔◌, ℕ, ◌+◌, ◌≤◌, ◌⊎◌, inl, inr, List, [], ◌∷◌, ◌++◌, map, length, Bool, true, false, ◌&&◌, ◌==◌, cond, IsTrue, None, refl, ap, sym, ◌∙◌, arith, length-append}
+use Rattle.std.specs.List.{IsDistinct, flat_map, list_any}
 use Rattle.std.proofs.lemmas.Grind.{flat_map-append}
-use Rattle.std.proofs.lemmas.List.{map-append, length-map}
-use Rattle.std.proofs.lemmas.List.Elements.{filter-append, filter_map-append}
-use Rattle.std.proofs.lemmas.Map.Keys.{IsDistinct-push}
-use Rattle.std.proofs.lemmas.Option.{same_Some}
-use Rattle.cim_words.specs.Limits.{most_at_place, most_items, most_marks}
+use Rattle.cim_words.specs.Limits.{most_at_place}
 use Rattle.cim_words.specs.declared.identifier.Id.{Id}
-use Rattle.cim_words.specs.declared.length.Length.{Length}
-use Rattle.cim_words.specs.declared.phases.PhaseSet.{PhaseSet}
 use Rattle.cim_words.specs.declared.statement.Statement.{Statement}
-use Rattle.cim_words.specs.Phases.{has_no_phase}
-use Rattle.cim_model.specs.Live.{is_place, item_segment_number, real_terms_at, terms_at}
-use Rattle.cim_model.specs.Marks.{is_item_on, item_mark, item_marks, marks_of, marks_on}
-use Rattle.cim_model.specs.Model.{is_of}
-use Rattle.cim_model.specs.Refusals.{in_the_way, least, marks_at}
-use Rattle.cim_model.specs.Stands.{AreApart, ItemStands, PositionStands, Stands}
-use Rattle.cim_model.proofs.ListMembers.{Among, among_any, among_contained, among_either, among_filter, among_left, any_among, contains_among, find_among, map_among}
-use Rattle.cim_model.proofs.LiveMarks.{live_marks}
-use Rattle.cim_model.proofs.MarkLists.{is_this}
-use Rattle.cim_model.proofs.OverlayItems.{IsLive, if_some}
-use Rattle.cim_model.proofs.Runs.{either, not_true, number_itself, same_number}
+use Rattle.cim_model.specs.Live.{is_place, real_terms_at, terms_at}
+use Rattle.cim_model.proofs.ListMembers.{Among, among_any, among_left, any_among}
+use Rattle.cim_model.proofs.Runs.{not_true, number_itself, same_number}
 use Rattle.cim_model.proofs.SaidLemmas.{both_left}
-use Rattle.room_words.specs.Items.{anchors, side, item_length, item_number, item_phases, item_terms_at, makes, own_places, standing, term_in}
+use Rattle.room_words.specs.Items.{anchors, side, item_number, item_terms_at, makes, term_in}
 use Rattle.room_words.specs.Overlay.{item_of}
 use Rattle.room_words.specs.Terms.{same_anchor}
 use Rattle.room_words.specs.declared.anchor.Anchor.{Anchor}
@@ -33,13 +17,11 @@ use Rattle.room_words.specs.declared.anchor.Anchor.TheVariants as anchor
 use Rattle.room_words.specs.declared.items.TempItem.{TempItem}
 use Rattle.room_words.specs.declared.items.TempItem.TheVariants as item
 use Rattle.room_words.specs.declared.overlay.Overlay.{Overlay}
-use Rattle.room_words.specs.declared.overlay.Position.{Position}
 use Rattle.room_words.specs.declared.term.Term.{Term}
-use Rattle.segment_cuts.specs.declared.mark.Mark.{Mark}
 use Rattle.act_laws.proofs.Makers.{maker_number}
-use Rattle.act_laws.proofs.Lists.{HasLeast, all_pass, has_least, none_found, none_passes, pairs_joined, pairs_one}
+use Rattle.act_laws.proofs.Lists.{none_found}
 use Rattle.act_laws.proofs.Passed.{CanBePlaced}
-use Rattle.act_laws.proofs.Still.{Bears, Takes, some_follows, still}
+use Rattle.act_laws.proofs.Still.{Takes}
 use Rattle.act_laws.proofs.PlacedMarks.{with_item}
 
 -- ---- places: those that there were

@@ -1,6 +1,6 @@
 -- A position is put in force or taken away: each still has a switch of its own, and they still ascend.
-use Rattle.std.proofs.Common.{◌≡◌, ℕ, ◌+◌, ◌<◌, ◌≤◌, inl, inr, List, [], ◌∷◌, ◌++◌, map, length, Bool, true, false, not, ◌||◌, ◌==◌, nat_lt, Option, Some, None, Contains, is_some, refl, ap, sym, ◌∙◌, subst, arith}
-use Rattle.std.specs.List.{AllPairs, filter, list_any}
+use Rattle.std.proofs.Common.{◌≡◌, ℕ, ◌+◌, ◌<◌, inl, inr, List, ◌∷◌, map, Bool, true, not, ◌==◌, nat_lt, Contains, refl, ◌∙◌, subst, arith}
+use Rattle.std.specs.List.{AllPairs, filter}
 use Rattle.std.specs.List.Sorted.{IsStrictlyIncreasing}
 use Rattle.std.proofs.lemmas.Bool.Decides.{nat_tests}
 use Rattle.std.proofs.lemmas.List.Kept.{AllPairs-cons, AllPairs-filter, AllPairs-from_increasing}
@@ -11,7 +11,7 @@ use Rattle.cim_model.specs.Effects.{with_position, without_position}
 use Rattle.cim_model.specs.Live.{is_place}
 use Rattle.cim_model.specs.Model.{is_of}
 use Rattle.cim_model.specs.Stands.{ItemStands, PositionStands, Stands}
-use Rattle.cim_model.proofs.ListMembers.{Among, among_contained, among_either, contains_among, filter_among, filter_passes}
+use Rattle.cim_model.proofs.ListMembers.{among_contained, among_either, contains_among, filter_among, filter_passes}
 use Rattle.cim_model.proofs.Pairs.{pairs_map}
 use Rattle.room_words.specs.Overlay.{position_number}
 use Rattle.room_words.specs.declared.anchor.Anchor.{Anchor}
@@ -20,7 +20,7 @@ use Rattle.room_words.specs.declared.items.TempItem.{TempItem}
 use Rattle.room_words.specs.declared.overlay.Overlay.{Overlay}
 use Rattle.room_words.specs.declared.overlay.Position.{Position}
 use Rattle.act_laws.proofs.Lists.{all_of, pairs_from_map, pairs_joined}
-use Rattle.act_laws.proofs.Still.{Bears, Takes, still}
+use Rattle.act_laws.proofs.Still.{still}
 
 abbrev pub in_force : Overlay → List Position → Overlay
 in_force o positions = record { items = o.items; positions = positions }

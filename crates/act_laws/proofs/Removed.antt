@@ -1,19 +1,17 @@
 -- An item is taken away at whose sides none is anchored: all other items still stand.
-use Rattle.std.proofs.Common.{◌≡◌, ◌≢◌, ℕ, ◌≤◌, List, map, length, Bool, true, false, not, ◌==◌, nat_eq, None, IfSome, Contains, find, refl, ap, sym, ◌∙◌, subst, arith, length-append}
-use Rattle.std.specs.List.{AllPairs, IsDistinct, filter, filter_map, flat_map, list_any}
+use Rattle.std.proofs.Common.{◌≡◌, ◌≢◌, ℕ, ◌≤◌, List, map, length, true, false, not, ◌==◌, nat_eq, None, Contains, find, ap, ◌∙◌, arith, length-append}
+use Rattle.std.specs.List.{IsDistinct, filter, flat_map}
 use Rattle.std.proofs.lemmas.Bool.Decides.{Decides-eqb}
 use Rattle.std.proofs.lemmas.List.Kept.{AllPairs-filter}
 use Rattle.std.proofs.lemmas.Map.Made.{AllPairs-from_IsDistinct, IsDistinct-from_AllPairs}
-use Rattle.cim_words.specs.Limits.{most_at_place, most_marks}
 use Rattle.cim_words.specs.declared.statement.Statement.{Statement}
 use Rattle.cim_model.specs.Effects.{without_item}
 use Rattle.cim_model.specs.Live.{is_place, real_terms_at, terms_at}
 use Rattle.cim_model.specs.Marks.{is_item_on, item_mark, item_marks, marks_of, marks_on}
 use Rattle.cim_model.specs.Refusals.{is_anchored_at, is_side_of}
-use Rattle.cim_model.specs.Stands.{AreApart, ItemStands, Stands}
+use Rattle.cim_model.specs.Stands.{Stands}
 use Rattle.cim_model.proofs.ListMembers.{Among, among_any, among_contained, among_filter, any_among, contains_among, filter_among}
 use Rattle.cim_model.proofs.Pairs.{pairs_map}
-use Rattle.cim_model.proofs.Runs.{not_true}
 use Rattle.room_words.specs.Items.{anchors, item_number, item_terms_at, makes}
 use Rattle.room_words.specs.declared.anchor.Anchor.{Anchor}
 use Rattle.room_words.specs.declared.anchor.Anchor.TheVariants as anchor

@@ -1,5 +1,5 @@
 -- When an item that stood in an overlay stands in another one.
-use Rattle.std.proofs.Common.{◌≡◌, ℕ, ◌≤◌, List, length, true, IsTrue, Option, Some, None, IfSome, Contains}
+use Rattle.std.proofs.Common.{◌≡◌, ℕ, ◌≤◌, List, length, true, Contains}
 use Rattle.cim_words.specs.Limits.{most_at_place, most_marks}
 use Rattle.cim_words.specs.declared.statement.Statement.{Statement}
 use Rattle.cim_model.specs.Live.{is_place, item_segment_number, terms_at}
@@ -9,6 +9,7 @@ use Rattle.room_words.specs.Items.{anchors}
 use Rattle.room_words.specs.declared.anchor.Anchor.{Anchor}
 use Rattle.room_words.specs.declared.items.TempItem.{TempItem}
 use Rattle.room_words.specs.declared.overlay.Overlay.{Overlay}
+use Rattle.act_laws.proofs.Lists.{some_follows}
 
 -- each segment that bore its marks bears those of another overlay
 pub record Bears (m : List Statement) (o p : Overlay) : Type 0 where
@@ -19,10 +20,6 @@ pub record Bears (m : List Statement) (o p : Overlay) : Type 0 where
 pub record Takes (m : List Statement) (o : Overlay) (place : Anchor) : Type 0 where
   pub is : is_place m o place ≡ true
   pub few : length (terms_at m o place) ≤ most_at_place
-
-pub some_follows : {X : Type 0} (P Q : X → Type 0) (found : Option X) → ((x : X) → P x → Q x) → IfSome found P → IfSome found Q
-some_follows P Q None follows is = tt
-some_follows P Q (Some x) follows is = follows x is
 
 pub still : (m : List Statement) (o p : Overlay) (one : TempItem) → Bears m o p → ((place : Anchor) → Contains (anchors one) place → Takes m o place → Takes m p place) → ItemStands m o one → ItemStands m p one
 still m o p one bears takes stands =

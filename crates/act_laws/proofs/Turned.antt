@@ -7,10 +7,10 @@ use Rattle.cim_words.specs.Phases.{has_no_phase}
 use Rattle.cim_words.specs.declared.phases.PhaseSet.{PhaseSet}
 use Rattle.cim_words.specs.declared.statement.Statement.{Statement}
 use Rattle.cim_model.specs.Effects.{turned, with_turned}
-use Rattle.cim_model.specs.Live.{is_place, real_terms_at, terms_at}
+use Rattle.cim_model.specs.Live.{is_place, real_terms_at}
 use Rattle.cim_model.specs.Marks.{is_item_on, item_mark, marks_of, marks_on}
 use Rattle.cim_model.specs.Stands.{AreApart, ItemStands, Stands}
-use Rattle.cim_model.proofs.ListMembers.{Among, among_contained, contains_among, map_among}
+use Rattle.cim_model.proofs.ListMembers.{among_contained, contains_among, map_among}
 use Rattle.room_words.specs.Items.{anchors, item_number, item_phases, item_terms_at, makes}
 use Rattle.room_words.specs.Terms.{same_anchor}
 use Rattle.room_words.specs.declared.anchor.Anchor.{Anchor}

@@ -11,7 +11,7 @@ ghost use Rattle.room_words.specs.declared.overlay.Overlay.{Overlay};
 
 use room_words::{places_are_compared, terms_are_compared};
 
-/// An accepted act leaves an overlay that stands.
+/// On a model without fault an accepted act leaves an overlay that stands.
 pub fn accepted_acts_stand()
     ensures { (m : List Statement) (o : Overlay) (a : Act) → IsFaultless m → Stands m o → refusal_of m o a ≡ None → Stands m (effect o a) }
 {
