@@ -1,0 +1,11 @@
+pub mod Accepted
+pub mod Lists
+pub mod Makers
+pub mod Passed
+pub mod Placed
+pub mod PlacedMarks
+pub mod PlacedTerms
+pub mod Positions
+pub mod Removed
+pub mod Still
+pub mod Turned

@@ -1,0 +1,6 @@
+//! Laws of switching orders.
+#![tactic(auto)]
+
+mod laws;
+
+pub use laws::accepted_acts_stand;
