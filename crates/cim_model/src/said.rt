@@ -24,7 +24,7 @@ pub fn class_of(object: &Object) -> Option<Class>
     ensures { result ≡ spec.class_named object.now }
 {
     match object {
-        Object::Name(name) => Some(Class::of_iri(name.text())),
+        Object::Name(name) => Some(Class::of_iri(name.iri())),
         _ => None,
     }
 }
@@ -75,7 +75,7 @@ pub fn code_of(object: &Object) -> Option<PhaseSet>
     ensures { result ≡ values.code_said object.now }
 {
     match object {
-        Object::Name(name) => PhaseSet::of_code_iri(name.text()).ok(),
+        Object::Name(name) => PhaseSet::of_code_iri(name.iri()).ok(),
         _ => None,
     }
 }
@@ -85,7 +85,7 @@ pub fn kind_of(object: &Object) -> Option<PhaseSet>
     ensures { result ≡ values.kind_said object.now }
 {
     match object {
-        Object::Name(name) => PhaseSet::of_kind_iri(name.text()).ok(),
+        Object::Name(name) => PhaseSet::of_kind_iri(name.iri()).ok(),
         _ => None,
     }
 }

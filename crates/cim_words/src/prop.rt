@@ -1,7 +1,8 @@
 //! The property of a statement.
 
-ghost use Rattle.std.specs.Prelude.{◌≡◌, IfOk, IsTrue};
+ghost use Rattle.std.specs.Prelude.{◌≡◌, IfOk, IsTrue, is_none};
 ghost use Rattle.std.specs.Str.{IsUtf8};
+ghost use Rattle.cim_words.specs.KnownProp.{known_prop};
 ghost use Rattle.cim_words.specs.Prop.{prop_of, prop_iri, is_proper_prop};
 
 use crate::NoMemory;
@@ -9,14 +10,60 @@ use crate::known_prop::{KnownProp, known_with_iri};
 use crate::table::Named;
 use crate::word::Word;
 use std::alloc::Global;
+use std::marker::Model;
+
+/// The IRI of a property that has no meaning here: never that of a known one.
+#[derive(Debug, Drop, PartialEq, Eq, PartialOrd, Ord)]
+pub struct OtherProp {
+    iri: Word,
+}
+
+impl Model for OtherProp {
+    ghost use Rattle.std.specs.Prelude.{ℕ, List, IsTrue, is_none};
+    ghost use Rattle.cim_words.specs.KnownProp.{known_prop};
+
+    ghost Value = { List ℕ };
+
+    ghost view = { λ other. other.iri };
+
+    ghost invariant = { λ other. IsTrue (is_none (known_prop other.iri)) };
+
+    ghost inverse = { λ iri. record { iri = iri } };
+}
+
+impl OtherProp {
+    /// The property with an IRI that is no known one's.
+    fn of(alloc: Global, iri: &str) -> Result<OtherProp, NoMemory>
+        requires { IsTrue (is_none (known_prop iri.now)) }
+        ensures { IfOk result (λ other. other ≡ iri.now) }
+    {
+        Ok(OtherProp {
+            iri: Word::of(alloc, iri)?,
+        })
+    }
+
+    /// Its IRI.
+    pub fn iri(&self) -> &str
+        ensures { result.now ≡ self.now }
+    {
+        self.iri.text()
+    }
+
+    /// Another of the same.
+    fn copy(&self, alloc: Global) -> Result<OtherProp, NoMemory>
+        ensures { IfOk result (λ other. other ≡ self.now) }
+    {
+        Ok(OtherProp {
+            iri: self.iri.copy(alloc)?,
+        })
+    }
+}
 
 /// What a statement says of its subject: a property with a meaning here, or any other.
-///
-/// `Other` never holds the IRI of a known property in a statement.
 #[derive(Debug, Drop, PartialEq, Eq, PartialOrd, Ord)]
 pub enum Prop {
     Known(KnownProp),
-    Other(Word),
+    Other(OtherProp),
 }
 
 impl Prop {
@@ -28,7 +75,7 @@ impl Prop {
     {
         match known_with_iri(text) {
             Some(known) => Ok(Prop::Known(known)),
-            None => Ok(Prop::Other(Word::of(alloc, text)?)),
+            None => Ok(Prop::Other(OtherProp::of(alloc, text)?)),
         }
     }
 
@@ -38,7 +85,7 @@ impl Prop {
     {
         match self {
             Prop::Known(known) => known.iri(),
-            Prop::Other(word) => word.text(),
+            Prop::Other(other) => other.iri(),
         }
     }
 
@@ -48,7 +95,7 @@ impl Prop {
     {
         match self {
             Prop::Known(known) => Ok(Prop::Known(*known)),
-            Prop::Other(word) => Ok(Prop::Other(word.copy(alloc)?)),
+            Prop::Other(other) => Ok(Prop::Other(other.copy(alloc)?)),
         }
     }
 }

@@ -26,7 +26,8 @@ fn text_length(object: &Object) -> usize
 {
     match object {
         Object::Id(_) => 0,
-        Object::Name(word) | Object::Text(word) => word.text().len(),
+        Object::Name(name) => name.iri().len(),
+        Object::Text(word) => word.text().len(),
     }
 }
 

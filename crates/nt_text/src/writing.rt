@@ -69,7 +69,7 @@ fn push_object(object: &Object, into: &mut Vec<u8>) -> Result<(), NoMemory>
 {
     match object {
         Object::Id(id) => push_id(*id, into),
-        Object::Name(word) => push_iri(word.text(), into),
+        Object::Name(name) => push_iri(name.iri(), into),
         Object::Text(word) => push_literal(word.text(), into),
     }
 }

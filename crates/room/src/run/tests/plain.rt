@@ -48,7 +48,7 @@ fn id_said(statements: &[Statement], subject: Id, known: KnownProp) -> Option<Id
 
 fn class_said(statements: &[Statement], subject: Id) -> Class {
     match said(statements, subject, KnownProp::RDF_TYPE) {
-        Some(Object::Name(name)) => Class::of_iri(name.text()),
+        Some(Object::Name(name)) => Class::of_iri(name.iri()),
         _ => Class::Other,
     }
 }
@@ -69,7 +69,7 @@ fn length_said(statements: &[Statement], subject: Id, known: KnownProp) -> u64 {
 
 fn kind_said(statements: &[Statement], subject: Id, known: KnownProp) -> Option<PhaseSet> {
     match said(statements, subject, known)? {
-        Object::Name(name) => PhaseSet::of_kind_iri(name.text()).ok(),
+        Object::Name(name) => PhaseSet::of_kind_iri(name.iri()).ok(),
         _ => None,
     }
 }
@@ -101,7 +101,7 @@ fn part_phases(statements: &[Statement], equipment: Id) -> Option<PhaseSet> {
 
 fn terminal_phases(statements: &[Statement], terminal: Id) -> PhaseSet {
     if let Some(Object::Name(code)) = said(statements, terminal, KnownProp::PHASES) {
-        return PhaseSet::of_code_iri(code.text()).unwrap_or(PhaseSet::EMPTY);
+        return PhaseSet::of_code_iri(code.iri()).unwrap_or(PhaseSet::EMPTY);
     }
     match id_said(statements, terminal, KnownProp::CONDUCTING_EQUIPMENT) {
         Some(owner) => part_phases(statements, owner).unwrap_or(PhaseSet::ABC),
