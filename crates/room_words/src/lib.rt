@@ -15,5 +15,5 @@ pub use anchor::{Anchor, places_are_compared};
 pub use cim_words::NoMemory;
 pub use items::{Items, TempItem};
 pub use lost::Lost;
-pub use overlay::{Overlay, Position, Positions};
+pub use overlay::{Overlay, Position, Positions, copied};
 pub use term::{Members, Point, Term, TermKey, terms_are_compared, terms_are_ordered};

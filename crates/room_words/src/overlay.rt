@@ -72,7 +72,7 @@ impl Overlay {
 }
 
 /// The same list once more.
-fn copied<T: Copy>(alloc: Global, list: &Listed<T>) -> Result<Listed<T>, NoMemory>
+pub fn copied<T: Copy>(alloc: Global, list: &Listed<T>) -> Result<Listed<T>, NoMemory>
     ensures { IfOk result (λ copy. copy ≡ list.now) }
 {
     Ok(Listed::of(Vec::from_slice(alloc, list.as_slice())?))

@@ -7,4 +7,6 @@ mod overlays;
 mod places;
 
 pub use items::stands;
-pub use overlays::{first_lost, overlay_stands};
+pub use marks::{has_at_most_marks, is_segment, mark_on};
+pub use overlays::{first_lost, is_switch, overlay_stands};
+pub use places::{has_at_most_terminals, is_place};

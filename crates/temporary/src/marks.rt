@@ -2,7 +2,6 @@
 
 ghost use Rattle.std.specs.Prelude.{◌≡◌, length, nat_le};
 ghost use Rattle.std.specs.List.{filter, list_all};
-ghost use Rattle.cim_words.specs.Limits.{most_marks};
 ghost use Rattle.cim_model.specs.Marks as spec;
 ghost use Rattle.cim_model.specs.Model.{is_of};
 ghost use Rattle.cim_words.specs.Groups as groups;
@@ -20,11 +19,11 @@ pub(crate) fn bears(index: &Index, overlay: &Overlay, segment: Id, at: Length) -
 {
     is_segment(index, segment)
         && lies_on(index, segment, at)
-        && has_few_marks(index, overlay, segment)
+        && has_at_most_marks(index, overlay, segment, MOST_MARKS)
 }
 
 /// Whether the identifier is that of a line segment.
-fn is_segment(index: &Index, id: Id) -> bool
+pub fn is_segment(index: &Index, id: Id) -> bool
     ensures { result ≡ is_of index.now groups.is_segment id.number }
 {
     match index.class_of(id) {
@@ -44,13 +43,13 @@ fn lies_on(index: &Index, segment: Id, at: Length) -> bool
         }
 }
 
-/// Whether a segment has no more marks than it may, those of the items among them.
-fn has_few_marks(index: &Index, overlay: &Overlay, segment: Id) -> bool
-    ensures { result ≡ nat_le (length (spec.marks_on index.now overlay.now segment.number)) most_marks }
+/// Whether a segment has no more than so many marks, those of the items among them.
+pub fn has_at_most_marks(index: &Index, overlay: &Overlay, segment: Id, most: usize) -> bool
+    ensures { result ≡ nat_le (length (spec.marks_on index.now overlay.now segment.number)) most }
 {
     let of_model = index.marks_of(segment).len();
     let of_items = count_on(overlay.items.as_slice(), segment);
-    of_model <= MOST_MARKS && of_items <= MOST_MARKS - of_model
+    of_model <= most && of_items <= most - of_model
 }
 
 /// How many of these items stand on a segment.
@@ -71,7 +70,7 @@ fn is_on(item: &TempItem, segment: Id) -> bool
 }
 
 /// An item as a mark of a segment, if it stands on it.
-fn mark_on(item: &TempItem, segment: Id) -> Option<Mark>
+pub fn mark_on(item: &TempItem, segment: Id) -> Option<Mark>
     ensures { result ≡ parts.mark_on segment.number item.now }
 {
     if is_on(item, segment) {

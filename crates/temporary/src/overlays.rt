@@ -115,7 +115,7 @@ fn are_of_switches(index: &Index, positions: &[Position]) -> bool
 }
 
 /// Whether the identifier is that of a switch.
-fn is_switch(index: &Index, id: Id) -> bool
+pub fn is_switch(index: &Index, id: Id) -> bool
     ensures { result ≡ is_of index.now groups.is_switch id.number }
 {
     match index.class_of(id) {

@@ -2,7 +2,6 @@
 
 ghost use Rattle.std.specs.Prelude.{◌≡◌, ◌+◌, length, nat_le, is_some};
 ghost use Rattle.std.specs.List.{filter, filter_map, list_any};
-ghost use Rattle.cim_words.specs.Limits.{most_at_place};
 ghost use Rattle.cim_model.specs.Live as live;
 ghost use Rattle.cim_model.specs.Model.{is_of};
 ghost use Rattle.cim_model.specs.Network.{owner_of};
@@ -20,11 +19,11 @@ use room_words::{Anchor, Overlay, TempItem, places_are_compared};
 pub(crate) fn takes(index: &Index, overlay: &Overlay, place: Anchor) -> bool
     ensures { result ≡ parts.takes index.now overlay.now place }
 {
-    is_place(index, overlay, place) && is_uncrowded(index, overlay, place)
+    is_place(index, overlay, place) && has_at_most_terminals(index, overlay, place, MOST_AT_PLACE)
 }
 
 /// Whether this is a node of the model, or a side of a cut or clamp of the overlay.
-fn is_place(index: &Index, overlay: &Overlay, place: Anchor) -> bool
+pub fn is_place(index: &Index, overlay: &Overlay, place: Anchor) -> bool
     ensures { result ≡ live.is_place index.now overlay.now place }
 {
     match place {
@@ -50,25 +49,24 @@ fn is_made(items: &[TempItem], place: Anchor) -> bool
     items.iter().any(|item| item.makes(place))
 }
 
-/// Whether no more terminals stand at a place than may.
-fn is_uncrowded(index: &Index, overlay: &Overlay, place: Anchor) -> bool
-    ensures { result ≡ nat_le (length (live.terms_at index.now overlay.now place)) most_at_place }
+/// Whether no more than so many terminals stand at a place, those of the items among them.
+pub fn has_at_most_terminals(index: &Index, overlay: &Overlay, place: Anchor, most: usize) -> bool
+    ensures { result ≡ nat_le (length (live.terms_at index.now overlay.now place)) most }
 {
     let items = overlay.items.as_slice();
     fit(
         of_model(index, place),
         first_at(items, place),
         second_at(items, place),
+        most,
     )
 }
 
-/// Whether terminals of the model, first sides and second sides are together no more than may stand at a place.
-fn fit(of_model: usize, first: usize, second: usize) -> bool
-    ensures { result ≡ nat_le (of_model + first + second) most_at_place }
+/// Whether terminals of the model, first sides and second sides are together no more than so many.
+fn fit(of_model: usize, first: usize, second: usize, most: usize) -> bool
+    ensures { result ≡ nat_le (of_model + first + second) most }
 {
-    of_model <= MOST_AT_PLACE
-        && first <= MOST_AT_PLACE - of_model
-        && second <= MOST_AT_PLACE - of_model - first
+    of_model <= most && first <= most - of_model && second <= most - of_model - first
 }
 
 /// How many terminals of the model stand at a place.
