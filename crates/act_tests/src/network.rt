@@ -24,12 +24,7 @@ pub(crate) const AB: PhaseSet = PhaseSet { c: false, ..ABC };
 pub(crate) const PHASES: [Phase; 4] = [Phase::A, Phase::B, Phase::C, Phase::N];
 
 /// A terminal: its identifier, its node, and whether it states the phases A and B.
-#[derive(Clone, Copy, Drop)]
-pub(crate) struct Leg {
-    pub(crate) id: u128,
-    pub(crate) node: Option<u128>,
-    pub(crate) is_ab: bool,
-}
+pub(crate) type Leg = (u128, Option<u128>, bool);
 
 /// A piece of equipment: its identifier, its class and its IRI, its terminals by side, whether it is open where it is a switch, its
 /// length in metres where it is a segment, and where it stands on a segment, in metres, where it is a cut or a clamp.
@@ -54,14 +49,6 @@ const PLAIN: Equipment = Equipment {
     stands: None,
 };
 
-const fn leg(id: u128, node: u128) -> Leg {
-    Leg {
-        id,
-        node: Some(node),
-        is_ab: false,
-    }
-}
-
 pub(crate) const NODES: [u128; 6] = [0xA1, 0xA2, 0xA3, 0xA4, 0xA5, 0xA6];
 
 /// A source, a breaker, a segment of 100 m and a consumer in a row; behind them a busbar section with a segment in the phases A and B
@@ -71,21 +58,21 @@ pub(crate) const NETWORK: [Equipment; 10] = [
         id: 0xE1,
         class: Class::EnergySource,
         iri: "http://iec.ch/TC57/CIM100#EnergySource",
-        legs: &[leg(0x71, 0xA1)],
+        legs: &[(0x71, Some(0xA1), false)],
         ..PLAIN
     },
     Equipment {
         id: 0xB1,
         class: Class::Breaker,
         iri: "http://iec.ch/TC57/CIM100#Breaker",
-        legs: &[leg(0x72, 0xA1), leg(0x73, 0xA2)],
+        legs: &[(0x72, Some(0xA1), false), (0x73, Some(0xA2), false)],
         ..PLAIN
     },
     Equipment {
         id: 0x51,
         class: Class::ACLineSegment,
         iri: "http://iec.ch/TC57/CIM100#ACLineSegment",
-        legs: &[leg(0x74, 0xA2), leg(0x75, 0xA3)],
+        legs: &[(0x74, Some(0xA2), false), (0x75, Some(0xA3), false)],
         length: Some(100),
         ..PLAIN
     },
@@ -93,44 +80,28 @@ pub(crate) const NETWORK: [Equipment; 10] = [
         id: 0xC1,
         class: Class::EnergyConsumer,
         iri: "http://iec.ch/TC57/CIM100#EnergyConsumer",
-        legs: &[leg(0x76, 0xA3)],
+        legs: &[(0x76, Some(0xA3), false)],
         ..PLAIN
     },
     Equipment {
         id: 0xD1,
         class: Class::BusbarSection,
         iri: "http://iec.ch/TC57/CIM100#BusbarSection",
-        legs: &[leg(0x77, 0xA3), leg(0x78, 0xA4)],
+        legs: &[(0x77, Some(0xA3), false), (0x78, Some(0xA4), false)],
         ..PLAIN
     },
     Equipment {
         id: 0x52,
         class: Class::ACLineSegment,
         iri: "http://iec.ch/TC57/CIM100#ACLineSegment",
-        legs: &[
-            Leg {
-                is_ab: true,
-                ..leg(0x79, 0xA4)
-            },
-            Leg {
-                is_ab: true,
-                ..leg(0x7A, 0xA5)
-            },
-        ],
+        legs: &[(0x79, Some(0xA4), true), (0x7A, Some(0xA5), true)],
         ..PLAIN
     },
     Equipment {
         id: 0x61,
         class: Class::Cut,
         iri: "http://iec.ch/TC57/CIM100#Cut",
-        legs: &[
-            Leg {
-                id: 0x7B,
-                node: None,
-                is_ab: false,
-            },
-            leg(0x7C, 0xA6),
-        ],
+        legs: &[(0x7B, None, false), (0x7C, Some(0xA6), false)],
         stands: Some((0x52, 60)),
         ..PLAIN
     },
@@ -138,7 +109,7 @@ pub(crate) const NETWORK: [Equipment; 10] = [
         id: 0x62,
         class: Class::Clamp,
         iri: "http://iec.ch/TC57/CIM100#Clamp",
-        legs: &[leg(0x7D, 0xA1)],
+        legs: &[(0x7D, Some(0xA1), false)],
         stands: Some((0x52, 20)),
         ..PLAIN
     },
@@ -146,7 +117,7 @@ pub(crate) const NETWORK: [Equipment; 10] = [
         id: 0xB2,
         class: Class::LoadBreakSwitch,
         iri: "http://iec.ch/TC57/CIM100#LoadBreakSwitch",
-        legs: &[leg(0x7E, 0xA5), leg(0x7F, 0xA6)],
+        legs: &[(0x7E, Some(0xA5), false), (0x7F, Some(0xA6), false)],
         is_open: true,
         ..PLAIN
     },
@@ -154,7 +125,7 @@ pub(crate) const NETWORK: [Equipment; 10] = [
         id: 0xF1,
         class: Class::Other,
         iri: "http://example.org/House",
-        legs: &[leg(0x80, 0xA6)],
+        legs: &[(0x80, Some(0xA6), false)],
         ..PLAIN
     },
 ];
@@ -201,26 +172,27 @@ fn say_leg(
     side: usize,
     leg: Leg,
 ) -> Result<(), NoMemory> {
+    let (id, node, is_ab) = leg;
     say(
         statements,
-        leg.id,
+        id,
         KnownProp::RDF_TYPE,
         Said::Name("http://iec.ch/TC57/CIM100#Terminal"),
     )?;
     say(
         statements,
-        leg.id,
+        id,
         KnownProp::CONDUCTING_EQUIPMENT,
         Said::Id(owner),
     )?;
     let number = Said::Text(if side == 0 { "1" } else { "2" });
-    say(statements, leg.id, KnownProp::SEQUENCE_NUMBER, number)?;
-    if let Some(node) = leg.node {
-        say(statements, leg.id, KnownProp::CONNECTIVITY_NODE, Said::Id(node))?;
+    say(statements, id, KnownProp::SEQUENCE_NUMBER, number)?;
+    if let Some(node) = node {
+        say(statements, id, KnownProp::CONNECTIVITY_NODE, Said::Id(node))?;
     }
-    if leg.is_ab {
+    if is_ab {
         let code = Said::Name("http://iec.ch/TC57/CIM100#PhaseCode.AB");
-        say(statements, leg.id, KnownProp::PHASES, code)?;
+        say(statements, id, KnownProp::PHASES, code)?;
     }
     Ok(())
 }
@@ -241,13 +213,23 @@ fn say_stand(statements: &mut Vec<Statement>, equipment: &Equipment) -> Result<(
 
 fn say_equipment(statements: &mut Vec<Statement>, equipment: &Equipment) -> Result<(), NoMemory> {
     let id = equipment.id;
-    say(statements, id, KnownProp::RDF_TYPE, Said::Name(equipment.iri))?;
+    say(
+        statements,
+        id,
+        KnownProp::RDF_TYPE,
+        Said::Name(equipment.iri),
+    )?;
     if equipment.class.is_switch() {
         let open = Said::Text(if equipment.is_open { "true" } else { "false" });
         say(statements, id, KnownProp::SWITCH_OPEN, open)?;
     }
     if let Some(metres) = equipment.length {
-        say(statements, id, KnownProp::CONDUCTOR_LENGTH, Said::Metres(metres))?;
+        say(
+            statements,
+            id,
+            KnownProp::CONDUCTOR_LENGTH,
+            Said::Metres(metres),
+        )?;
     }
     say_stand(statements, equipment)?;
     for (side, leg) in equipment.legs.iter().enumerate() {

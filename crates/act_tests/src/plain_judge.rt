@@ -15,15 +15,14 @@ pub(crate) struct Plain {
 /// A cut or a clamp on a segment: its identifier, how many millimetres it is from terminal 1, and whether it is a cut.
 pub(crate) type Mark = (Id, u64, bool);
 
-pub(crate) fn equipment(id: Id) -> Option<&'static Equipment> {
-    NETWORK.iter().find(|one| one.id == id.number)
+pub(crate) fn equipment(id: Id) -> Option<Equipment> {
+    NETWORK.iter().find(|one| one.id == id.number).copied()
 }
 
 fn is_subject(id: Id) -> bool {
     NODES.contains(&id.number)
-        || NETWORK
-            .iter()
-            .any(|one| one.id == id.number || one.legs.iter().any(|leg| leg.id == id.number))
+        || NETWORK.iter().any(|one| one.id == id.number
+            || one.legs.iter().any(|leg| leg.0 == id.number))
 }
 
 /// A cut or a clamp of the network on a segment.
@@ -64,7 +63,7 @@ fn is_anchored(item: &TempItem, id: Id) -> bool {
 }
 
 /// How long a segment is, in millimetres.
-fn most_length(segment: &Equipment) -> u64 {
+fn most_length(segment: Equipment) -> u64 {
     segment
         .length
         .map_or(1_000_000_000_000, |metres| metres.saturating_mul(1000))
@@ -75,7 +74,7 @@ impl Plain {
         self.items.iter().find(|item| item.id() == id).copied()
     }
 
-    fn is_live(&self, id: Id) -> bool {
+    pub(crate) fn is_live(&self, id: Id) -> bool {
         equipment(id).is_some() || self.item(id).is_some()
     }
 
@@ -120,10 +119,19 @@ impl Plain {
     }
 
     /// The least mark that a cut would meet at a length, or the cut that a clamp would.
-    fn met(&self, alloc: Global, segment: Id, mm: u64, by_cut: bool) -> Result<Option<Id>, NoMemory> {
+    fn met(
+        &self,
+        alloc: Global,
+        segment: Id,
+        mm: u64,
+        by_cut: bool,
+    ) -> Result<Option<Id>, NoMemory> {
         let mut met: Option<Id> = None;
         for (id, at, is_cut) in self.marks(alloc, segment)? {
-            if at == mm && (is_cut || by_cut) && met.map_or(true, |least| id.number < least.number) {
+            if at == mm
+                && (is_cut || by_cut)
+                && met.map_or(true, |least| id.number < least.number)
+            {
                 met = Some(id);
             }
         }
@@ -199,7 +207,10 @@ impl Plain {
         if mm > most_length(line) {
             return Ok(Some(ActRefusal::Length));
         }
-        Ok(self.met(alloc, segment, mm, by_cut)?.map(ActRefusal::SamePlace))
+        Ok(
+            self.met(alloc, segment, mm, by_cut)?
+                .map(ActRefusal::SamePlace),
+        )
     }
 
     /// Why a jumper or a ground with these anchors is not placed.
@@ -256,11 +267,19 @@ impl Plain {
     fn turn(&mut self, id: Id, open: bool) -> Result<(), NoMemory> {
         for item in self.items.iter_mut() {
             match item {
-                TempItem::Cut { id: of, is_open, .. } if *of == id => {
+                TempItem::Cut {
+                    id: of,
+                    is_open,
+                    ..
+                } if *of == id => {
                     *is_open = open;
                     return Ok(());
                 }
-                TempItem::Jumper { id: of, is_open, .. } if *of == id => {
+                TempItem::Jumper {
+                    id: of,
+                    is_open,
+                    ..
+                } if *of == id => {
                     *is_open = open;
                     return Ok(());
                 }
@@ -272,7 +291,8 @@ impl Plain {
             switch: id,
             is_open: open,
         })?;
-        self.positions.sort_by_key(|position| position.switch.number)
+        self.positions
+            .sort_by_key(|position| position.switch.number)
     }
 
     fn release(&mut self, id: Id) {
@@ -296,33 +316,39 @@ impl Plain {
                 new_id: id,
                 segment,
                 length,
-            } => Ok(self.items.push(TempItem::Cut {
-                id,
-                segment,
-                length,
-                is_open: true,
-            })?),
+            } => Ok(
+                self.items.push(TempItem::Cut {
+                    id,
+                    segment,
+                    length,
+                    is_open: true,
+                })?,
+            ),
             Act::Clamp {
                 new_id: id,
                 segment,
                 length,
-            } => Ok(self.items.push(TempItem::Clamp {
-                id,
-                segment,
-                length,
-            })?),
+            } => Ok(
+                self.items.push(TempItem::Clamp {
+                    id,
+                    segment,
+                    length,
+                })?,
+            ),
             Act::Jumper {
                 new_id: id,
                 first,
                 second,
                 phases,
-            } => Ok(self.items.push(TempItem::Jumper {
-                id,
-                first,
-                second,
-                phases,
-                is_open: false,
-            })?),
+            } => Ok(
+                self.items.push(TempItem::Jumper {
+                    id,
+                    first,
+                    second,
+                    phases,
+                    is_open: false,
+                })?,
+            ),
             Act::Ground {
                 new_id: id,
                 at,

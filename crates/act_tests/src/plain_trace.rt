@@ -35,7 +35,7 @@ struct Live<'a> {
 
 fn segment_phases(segment: Id) -> PhaseSet {
     match equipment(segment) {
-        Some(one) if one.legs.iter().all(|leg| leg.is_ab) => AB,
+        Some(one) if one.legs.iter().all(|leg| leg.2) => AB,
         _ => ABC,
     }
 }
@@ -57,10 +57,11 @@ fn stand(one: &Equipment, side: usize) -> Option<(Id, Spot)> {
 
 fn push_equipment(terminals: &mut Vec<Terminal>, one: &Equipment) -> Result<(), NoMemory> {
     for (side, leg) in one.legs.iter().enumerate() {
+        let (_, node, is_ab) = *leg;
         terminals.push(Terminal {
             owner: Id::of(one.id),
-            place: leg.node.map(|node| Anchor::Node(Id::of(node))),
-            phases: if leg.is_ab { AB } else { ABC },
+            place: node.map(|node| Anchor::Node(Id::of(node))),
+            phases: if is_ab { AB } else { ABC },
             stands: stand(one, side),
         })?;
     }
@@ -92,7 +93,10 @@ fn side_one(item: &TempItem) -> Terminal {
             stands: Some((segment, (length.mm, 1))),
         },
         TempItem::Jumper {
-            id, first, phases, ..
+            id,
+            first,
+            phases,
+            ..
         } => Terminal {
             owner: id,
             place: Some(first),
@@ -123,7 +127,10 @@ fn side_two(item: &TempItem) -> Option<Terminal> {
             stands: Some((segment, (length.mm, 2))),
         }),
         TempItem::Jumper {
-            id, second, phases, ..
+            id,
+            second,
+            phases,
+            ..
         } => Some(Terminal {
             owner: id,
             place: Some(second),
@@ -192,10 +199,8 @@ impl Live<'_> {
         };
         segment == other
             && segment_phases(segment).has(phase)
-            && !self
-                .cuts
-                .iter()
-                .any(|(on, at)| *on == segment && lies_between((*at, 1), here, there))
+            && !self.cuts.iter().any(|(on, at)| *on == segment
+                && lies_between((*at, 1), here, there))
     }
 
     /// Whether current goes through what owns both.
@@ -239,7 +244,7 @@ fn count(points: &[Point]) -> usize {
 }
 
 /// What is reached from a source.
-pub(crate) fn reached(
+pub(crate) fn reach_from(
     alloc: Global,
     plain: &Plain,
     source: Id,
@@ -288,8 +293,6 @@ impl Reached {
 /// Whether a point counts for what has an identifier: its owner, and the segment on which it stands, where that has its phase.
 fn counts_for(point: &Point, id: Id) -> bool {
     point.terminal.owner == id
-        || point
-            .terminal
-            .stands
-            .is_some_and(|(segment, _)| segment == id && segment_phases(id).has(point.phase))
+        || point.terminal.stands.is_some_and(|(segment, _)| segment == id
+            && segment_phases(id).has(point.phase))
 }
