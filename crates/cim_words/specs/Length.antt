@@ -37,9 +37,19 @@ pub record IsNumberSplit (text whole fraction ending : List ℕ) : Type 0 where
   pub fraction_digits : fraction ≡ fraction_at (after_digits (without_sign text))
   pub rest : ending ≡ after_fraction (after_digits (without_sign text))
 
--- the number that 1 to 30 digits spell
+-- how many digits a length has at most, and its power of ten, and how many metres it is at most
+abbrev pub most_digits : ℕ
+most_digits = 30
+
+abbrev pub most_exponent_digits : ℕ
+most_exponent_digits = 3
+
+abbrev pub most_metres : ℕ
+most_metres = 1000000000
+
+-- the number that some digits spell, unless they are too many
 abbrev pub number_in : List ℕ → Option ℕ
-number_in digits = if nat_lt 0 (length digits) && nat_le (length digits) 30 then Some (number_of digits) else None
+number_in digits = if nat_lt 0 (length digits) && nat_le (length digits) most_digits then Some (number_of digits) else None
 
 -- a power of ten: whether it divides, and its exponent
 pub record Scale : Type 0 where
@@ -50,9 +60,9 @@ pub record Scale : Type 0 where
 abbrev pub is_exponent_mark : ℕ → Bool
 is_exponent_mark byte = byte == 0x65 || byte == 0x45
 
--- whether these are 1 to 3 digits
+-- whether these are the digits of a power of ten: some, and not too many
 abbrev pub is_exponent : List ℕ → Bool
-is_exponent digits = list_all is_digit digits && nat_lt 0 (length digits) && nat_le (length digits) 3
+is_exponent digits = list_all is_digit digits && nat_lt 0 (length digits) && nat_le (length digits) most_exponent_digits
 
 -- the power that the end of a text names: none, or `e` or `E`, an optional sign and 1 to 3 digits
 abbrev pub scale_of : List ℕ → Option Scale
@@ -62,12 +72,12 @@ scale_of (mark ∷ rest) =
     then Some (record { divides = begins_with minus rest; exponent = number_of (without_sign rest) })
     else None
 
--- The whole millimetres in `number * 10 ^ up / 10 ^ down` metres, which are at most 1,000,000,000. A minus stands before zero alone.
+-- The whole millimetres in `number * 10 ^ up / 10 ^ down` metres, which have an upper limit. A minus stands before zero alone.
 unfoldable pub millimetres : Bool → ℕ → ℕ → ℕ → Option ℕ
 millimetres negative number up down =
     if number == 0 then Some 0
     else if negative then None
-    else if nat_le (number * 10 ^ up) (1000000000 * 10 ^ down) then Some (number * 10 ^ (up + 3) / 10 ^ down)
+    else if nat_le (number * 10 ^ up) (most_metres * 10 ^ down) then Some (number * 10 ^ (up + 3) / 10 ^ down)
     else None
 
 -- the same, of these digits with so many of them behind the point, and a power of ten
@@ -83,6 +93,6 @@ length_of text =
     let unsigned = without_sign text in
     let rest = after_digits unsigned in
     let digits = digits_at unsigned ++ fraction_at rest in
-    if nat_lt 0 (length digits) && nat_le (length digits) 30
+    if nat_lt 0 (length digits) && nat_le (length digits) most_digits
     then scaled (begins_with minus text) digits (length (fraction_at rest)) (scale_of (after_fraction rest))
     else None

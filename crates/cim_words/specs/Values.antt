@@ -20,6 +20,9 @@ number_from before (digit ∷ digits) = number_from (before * 10 + (digit - 48))
 abbrev pub number_of : List ℕ → ℕ
 number_of digits = number_from 0 digits
 
--- a sequence number: 1 to 9 digits
+-- a sequence number: some digits, and not too many
+abbrev pub most_number_digits : ℕ
+most_number_digits = 9
+
 unfoldable pub sequence_number : List ℕ → Option ℕ
-sequence_number text = if list_all is_digit text && nat_lt 0 (length text) && nat_le (length text) 9 then Some (number_of text) else None
+sequence_number text = if list_all is_digit text && nat_lt 0 (length text) && nat_le (length text) most_number_digits then Some (number_of text) else None
