@@ -176,14 +176,24 @@ fn is_reached(tracer: &Tracer, plain: &Plain, want: &Reached) -> bool {
         })
 }
 
-/// Whether traces from two sources and an item are those of the plain program.
-fn traces(alloc: Global, graph: &Graph, plain: &Plain) -> Result<bool, NoMemory> {
+/// Whether a trace is that of the plain program: from equipment and items, and from nothing else.
+fn is_traced(
+    alloc: Global,
+    graph: &Graph,
+    plain: &Plain,
+    source: Id,
+    asked: PhaseSet,
+) -> Result<bool, NoMemory> {
+    let want = reach_from(alloc, plain, source, asked)?;
     let mut tracer = Tracer::reserve(alloc, graph)?;
+    let found = tracer.trace(graph, source, asked).is_ok();
+    Ok(found == plain.is_live(source) && (!found || is_reached(&tracer, plain, &want)))
+}
+
+/// Whether traces from two sources, a consumer and an item are those of the plain program.
+fn are_traced(alloc: Global, graph: &Graph, plain: &Plain) -> Result<bool, NoMemory> {
     for (source, asked) in [(0xE1, ABC), (0xC1, AB), (0xF1, ABC), (0x92, ABC)] {
-        let source = Id::of(source);
-        let want = reach_from(alloc, plain, source, asked)?;
-        let found = tracer.trace(graph, source, asked).is_ok();
-        if found != plain.is_live(source) || found && !is_reached(&tracer, plain, &want) {
+        if !is_traced(alloc, graph, plain, Id::of(source), asked)? {
             return Ok(false);
         }
     }
@@ -248,7 +258,7 @@ fn answers_as_the_plain_program(rt: HostRuntime) -> Result<(), Fail> {
         if want.is_none() {
             assert!(rt; overlay_stands(&index, &overlay), "after act {number}");
             let graph = graph_of::<Brand>(alloc, &index, &overlay, Blank::new(1))?;
-            assert!(rt; traces(alloc, &graph, &plain)?, "after act {number}");
+            assert!(rt; are_traced(alloc, &graph, &plain)?, "after act {number}");
         }
     }
     assert!(rt; came == 4095, "{came}");
