@@ -9,4 +9,5 @@ pub mod Stable
 pub mod Stages
 pub mod TypeRows
 pub mod RuleLemmas
+pub mod RuleOrder
 pub mod Walks

@@ -1,45 +1,38 @@
 -- The least fault of a model, from those of the two stages of its rules.
-use Rattle.std.proofs.Common.{◌≡◌, ℕ, ◌<◌, ◌≤◌, List, [], ◌∷◌, Bool, true, false, ◌||◌, inl, Option, Some, None, refl, sym, subst, ◌∙◌, arith, ⊎_elim, zero, suc, slice_index_or}
+use Rattle.std.proofs.Common.{◌≡◌, ℕ, ◌<◌, ◌≤◌, List, Bool, true, false, ◌||◌, ◌&&◌, not, inl, Option, Some, None, refl, sym, subst, ◌∙◌, arith, ⊎_elim, ltb}
+use Rattle.std.proofs.lemmas.Bool.Decides.{nat_tests}
 use Rattle.cim_profile.specs.FirstBreak.{IsFirstBreak}
 use Rattle.cim_words.specs.declared.statement.Statement.{Statement}
 use Rattle.cim_model.specs.Model.{is_subject}
-use Rattle.cim_model.specs.Profile.{breaks, breaks_type, breaks_once, breaks_owner, breaks_target, breaks_terminals, breaks_numbers, breaks_form, breaks_place, breaks_crowd, breaks_sides}
-use Rattle.cim_profile.specs.Walk.{IsLeast, breaks_in}
+use Rattle.cim_model.specs.Profile.{breaks}
+use Rattle.cim_profile.specs.Walk.{IsLeast, breaks_in, covers}
 use Rattle.cim_profile.specs.declared.faults.Break.{Break}
-use Rattle.cim_profile.specs.declared.faults.Stage.TheVariants.{Repeats, Rest}
+use Rattle.cim_profile.specs.declared.stage.Stage.TheVariants.{Repeats, Rest}
+use Rattle.cim_profile.specs.declared.stage.TheConstants.{ON_REPEATS}
 use Rattle.cim_model.proofs.Runs.{either, or_left, or_right}
 
-or_false : (a : Bool) → a ≡ (a || false)
-or_false true = refl
-or_false false = refl
+-- ---- the rules of the two stages
 
--- ---- a place in a list, in its first three or after them
-
-in_parts : (a b : Bool) (rest : List Bool) (rule : ℕ) → slice_index_or (false ∷ a ∷ b ∷ rest) rule false ≡ (slice_index_or (false ∷ a ∷ b ∷ []) rule false || slice_index_or (false ∷ false ∷ false ∷ rest) rule false)
-in_parts a b rest zero = refl
-in_parts a b rest (suc zero) = or_false a
-in_parts a b rest (suc (suc zero)) = or_false b
-in_parts a b rest (suc (suc (suc rule))) = refl
-
-early : (a b : Bool) (rule : ℕ) → slice_index_or (false ∷ a ∷ b ∷ []) rule false ≡ true → rule < 3
-early a b zero h = omega arith
-early a b (suc zero) h = omega arith
-early a b (suc (suc zero)) h = omega arith
-early a b (suc (suc (suc rule))) h = absurd cc
-
-late : (rest : List Bool) (rule : ℕ) → slice_index_or (false ∷ false ∷ false ∷ rest) rule false ≡ true → 3 ≤ rule
-late rest zero h = absurd cc
-late rest (suc zero) h = absurd cc
-late rest (suc (suc zero)) h = absurd cc
-late rest (suc (suc (suc rule))) h = omega arith
-
--- ---- the rules of a model
-
-abbrev late_verdicts : List Statement → ℕ → List Bool
-late_verdicts m x = breaks_owner m x ∷ breaks_target m x ∷ breaks_terminals m x ∷ breaks_numbers m x ∷ breaks_form m x ∷ breaks_place m x ∷ breaks_crowd m x ∷ breaks_sides m x ∷ []
+in_parts : (later broken : Bool) → broken ≡ (not later && broken || later && broken)
+in_parts true broken = refl
+in_parts false true = refl
+in_parts false false = refl
 
 by_stage : (m : List Statement) (rule x : ℕ) → breaks m rule x ≡ (breaks_in Repeats m rule x || breaks_in Rest m rule x)
-by_stage m rule x = in_parts (breaks_type m x) (breaks_once m x) (late_verdicts m x) rule
+by_stage m rule x = in_parts (ltb ON_REPEATS rule) (breaks m rule x)
+
+covered : (covers_it broken : Bool) → (covers_it && broken) ≡ true → covers_it ≡ true
+covered true broken both = refl
+covered false broken both = both
+
+-- each rule of the first stage stands before each of the second
+early : (m : List Statement) (rule x : ℕ) → breaks_in Repeats m rule x ≡ true → rule ≤ ON_REPEATS
+early m rule x broken = let in_first : covers Repeats rule ≡ true = covered (covers Repeats rule) (breaks m rule x) broken in grind (arith, nat_tests)
+
+late : (m : List Statement) (rule x : ℕ) → breaks_in Rest m rule x ≡ true → ON_REPEATS < rule
+late m rule x broken = let in_second : covers Rest rule ≡ true = covered (covers Rest rule) (breaks m rule x) broken in grind (arith, nat_tests)
+
+-- ---- the least fault
 
 first_of_repeats : (m : List Statement) (b : Break) → IsLeast (breaks_in Repeats m) (is_subject m) (Some b) → IsFirstBreak m (Some b)
 first_of_repeats m b least = (
@@ -47,8 +40,8 @@ first_of_repeats m b least = (
   λ rule x fault.
       ⊎_elim (λ here. least.2 rule x fault.subject here)
       (λ there.
-      let before : b.rule < 3 = early _ _ b.rule least.1 in
-      let from : 3 ≤ rule = late (late_verdicts m x) rule there in inl (omega arith))
+      let before : b.rule ≤ ON_REPEATS = early m b.rule b.subject.number least.1 in
+      let from : ON_REPEATS < rule = late m rule x there in inl (omega arith))
       (either _ _ (sym (by_stage m rule x) ∙ fault.broken)),
 )
 

@@ -1,12 +1,15 @@
 -- The walks over the subjects of a model, one for each stage of the rules.
-use Rattle.std.specs.Prelude.{ℕ, ◌≡◌, ◌<◌, List, [], ◌∷◌, Bool, true, false, Option, Some, None, if◌then◌else◌, nat_lt, slice_index_or}
+use Rattle.std.specs.Prelude.{ℕ, ◌≡◌, ◌<◌, List, Bool, true, false, not, ◌&&◌, Option, Some, None, if◌then◌else◌, nat_lt}
+use Rattle.std.specs.List.{filter}
 use Rattle.cim_words.specs.declared.identifier.Id.{Id}
 use Rattle.cim_words.specs.declared.statement.Statement.{Statement}
-use Rattle.cim_model.specs.Profile.{breaks_type, breaks_once, breaks_owner, breaks_target, breaks_terminals, breaks_numbers, breaks_form, breaks_place, breaks_crowd, breaks_sides}
+use Rattle.cim_model.specs.Profile.{breaks}
 use Rattle.cim_profile.specs.FirstBreak.{IsAtMost}
+use Rattle.cim_profile.specs.Rule.{numbers}
 use Rattle.cim_profile.specs.declared.faults.Break.{Break}
-use Rattle.cim_profile.specs.declared.faults.Stage.{Stage}
-use Rattle.cim_profile.specs.declared.faults.Stage.TheVariants as stage
+use Rattle.cim_profile.specs.declared.stage.Stage.{Stage}
+use Rattle.cim_profile.specs.declared.stage.Stage.TheVariants as stage
+use Rattle.cim_profile.specs.declared.stage.TheConstants.{ON_REPEATS}
 
 -- the fault so far, or that of a later subject where it is by an earlier rule
 abbrev pub lesser_of : Option Break → Option ℕ → Id → Option Break
@@ -18,15 +21,17 @@ lesser_of (Some found) (Some rule) subject = if nat_lt rule found.rule then Some
 abbrev pub IsLesserBy : (Option ℕ → Type 0) → Option Break → Id → Option Break → Type 0
 IsLesserBy IsRule least subject now = (rule : Option ℕ) × IsRule rule × (now ≡ lesser_of least rule subject)
 
--- which rules of a stage a subject breaks, by number, and whether it breaks one of them; the others of the profile count as kept
-abbrev pub verdicts_in : Stage → List Statement → ℕ → List Bool
-verdicts_in stage.Repeats m x = false ∷ breaks_type m x ∷ breaks_once m x ∷ []
-verdicts_in stage.Rest m x =
-    false ∷ false ∷ false ∷ breaks_owner m x ∷ breaks_target m x ∷ breaks_terminals m x ∷ breaks_numbers m x ∷ breaks_form m x ∷ breaks_place m x
-    ∷ breaks_crowd m x ∷ breaks_sides m x ∷ []
+-- whether a stage covers a rule, by number, and whether a subject breaks a rule that it covers
+abbrev pub covers : Stage → ℕ → Bool
+covers stage.Repeats rule = not (nat_lt ON_REPEATS rule)
+covers stage.Rest rule = nat_lt ON_REPEATS rule
 
 abbrev pub breaks_in : Stage → List Statement → ℕ → ℕ → Bool
-breaks_in stage m rule x = slice_index_or (verdicts_in stage m x) rule false
+breaks_in stage m rule x = covers stage rule && breaks m rule x
+
+-- the numbers of the rules that a stage covers, in their order
+abbrev pub numbers_of : Stage → List ℕ
+numbers_of stage = filter (covers stage) numbers
 
 -- the first of some rules that a subject breaks, or none, and the first of those of a stage
 abbrev pub IsFirst : (ℕ → ℕ → Bool) → ℕ → Option ℕ → Type 0

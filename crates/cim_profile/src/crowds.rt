@@ -1,4 +1,4 @@
-//! The rules of the profile that count terminals and marks, and that compare numbers and places.
+//! The rules of the profile on how many terminals and marks there are, and on the numbers of two terminals.
 
 ghost use Rattle.std.specs.Prelude.{◌≡◌, [], ◌∷◌, IfOk};
 ghost use Rattle.cim_model.specs.Profile as spec;

@@ -1,20 +1,15 @@
-//! The least fault of a model.
+//! The least fault of a model, by a walk over its subjects for each stage of the rules.
 
 ghost use Rattle.std.specs.Prelude.{◌≡◌, IfOk};
 ghost use Rattle.cim_model.specs.Model.{about, is_subject};
 ghost use Rattle.cim_profile.specs.FirstBreak.{IsFirstBreak};
 ghost use Rattle.cim_profile.specs.Places.{HoldsPlaces};
-ghost use Rattle.cim_profile.specs.Subject.{IsSubjectOf};
 ghost use Rattle.cim_profile.specs.Walk.{IsFirstIn, IsLeast, IsLesserBy, breaks_in, lesser_of};
-ghost use Rattle.cim_profile.specs.declared.faults.Stage.TheVariants.{Repeats, Rest};
+ghost use Rattle.cim_profile.specs.declared.stage.Stage.TheVariants.{Rest};
 
-use crate::crowds::{breaks_crowd, breaks_numbers, breaks_terminals};
 use crate::facts::Facts;
 use crate::marks::Places;
-use crate::places::breaks_place;
-use crate::rules::{
-    breaks_form, breaks_once, breaks_owner, breaks_sides, breaks_target, breaks_type,
-};
+use crate::stage::{Stage, first_rule};
 use crate::subject::Subject;
 use cim_words::{Id, NoMemory};
 use statement_set::{About, StatementSet};
@@ -27,17 +22,6 @@ pub struct Break {
     pub rule: u8,
     /// The subject at fault.
     pub subject: Id,
-}
-
-/// The rules that one walk over the subjects looks at.
-///
-/// The rules of the first stage bound what a subject of the model's classes repeats, so the later rules are cheap where none of these is broken.
-#[derive(Clone, Copy, Drop)]
-enum Stage {
-    /// The rules 1 and 2, on what is stated more than once.
-    Repeats,
-    /// The rules 3 to 10.
-    Rest,
 }
 
 /// The least fault of a model by rule and then by subject, none where it breaks no rule of the profile.
@@ -106,74 +90,4 @@ fn lesser(least: Option<Break>, rule: Option<u8>, subject: Id) -> Option<Break>
         (Some(found), Some(rule)) if rule < found.rule => Some(Break { rule, subject }),
         (found, _) => found,
     }
-}
-
-/// The first rule of a stage that a subject breaks.
-fn first_rule(
-    alloc: Global,
-    facts: &Facts<'_>,
-    places: &Places,
-    stage: Stage,
-    subject: &Subject<'_>,
-) -> Result<Option<u8>, NoMemory>
-    requires subject { IsSubjectOf facts.now.statements.now subject.now }
-    requires places { stage ≡ Rest → HoldsPlaces facts.now.statements.now places.now }
-    ensures { IfOk result (IsFirstIn stage facts.now.statements.now subject.now.id.number) }
-{
-    match stage {
-        Stage::Repeats => first_of_repeats(alloc, facts, subject),
-        Stage::Rest => first_of_rest(alloc, facts, places, subject),
-    }
-}
-
-/// The first of the rules 1 and 2 that a subject breaks.
-fn first_of_repeats(
-    alloc: Global,
-    facts: &Facts<'_>,
-    subject: &Subject<'_>,
-) -> Result<Option<u8>, NoMemory>
-    requires { IsSubjectOf facts.now.statements.now subject.now }
-    ensures { IfOk result (IsFirstIn Repeats facts.now.statements.now subject.now.id.number) }
-{
-    let rule = if breaks_type(alloc, facts, subject)? {
-        1
-    } else if breaks_once(subject) {
-        2
-    } else {
-        return Ok(None);
-    };
-    Ok(Some(rule))
-}
-
-/// The first of the rules 3 to 10 that a subject breaks.
-fn first_of_rest(
-    alloc: Global,
-    facts: &Facts<'_>,
-    places: &Places,
-    subject: &Subject<'_>,
-) -> Result<Option<u8>, NoMemory>
-    requires subject { IsSubjectOf facts.now.statements.now subject.now }
-    requires places { HoldsPlaces facts.now.statements.now places.now }
-    ensures { IfOk result (IsFirstIn Rest facts.now.statements.now subject.now.id.number) }
-{
-    let rule = if breaks_owner(subject) {
-        3
-    } else if breaks_target(facts, subject) {
-        4
-    } else if breaks_terminals(alloc, facts, subject)? {
-        5
-    } else if breaks_numbers(alloc, facts, subject)? {
-        6
-    } else if breaks_form(subject) {
-        7
-    } else if breaks_place(alloc, facts, places, subject)? {
-        8
-    } else if breaks_crowd(alloc, facts, subject)? {
-        9
-    } else if breaks_sides(subject) {
-        10
-    } else {
-        return Ok(None);
-    };
-    Ok(Some(rule))
 }

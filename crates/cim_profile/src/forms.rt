@@ -1,4 +1,4 @@
-//! The forms of values.
+//! The forms that properties ask of their values, for the rule of the profile on these.
 
 ghost use Rattle.std.specs.Prelude.{◌≡◌};
 ghost use Rattle.cim_model.specs.Profile as spec;

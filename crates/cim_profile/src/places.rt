@@ -1,4 +1,4 @@
-//! The rule of the profile on the places of cuts and clamps.
+//! The rule of the profile on where a cut or a clamp lies along its segment.
 
 ghost use Rattle.std.specs.Prelude.{◌≡◌, List, map, nat_lt, IfOk};
 ghost use Rattle.std.specs.List.{list_any};
