@@ -1,0 +1,60 @@
+-- What may be missing, and the first of a list that passes a test. More of these laws stand in the standard library, in Option.
+use Rattle.std.proofs.Common.{◌≡◌, ℕ, ◌+◌, inl, inr, List, [], ◌∷◌, map, length, Bool, true, false, not, cond, nat_lt, Option, Some, None, IsTrue, IfSome, is_none, find, position, refl, ap, ap₂, sym, ◌∙◌, subst}
+use Rattle.std.specs.List.{position_or_len}
+use Rattle.std.proofs.lemmas.Option.{same_Some}
+use Rattle.plain_laws.proofs.Members.{Among}
+
+pub some_none : {X : Type 0} (x : X) → ◌≡◌ {A = Option X} (Some x) None → ⊥
+some_none x is = cc
+
+pub none_from_test : {X : Type 0} (o : Option X) → IsTrue (is_none o) → o ≡ None
+none_from_test None is = refl
+none_from_test (Some x) is = absurd cc
+
+pub if_some : {X : Type 0} (P : X → Type 0) (found : Option X) (x : X) → found ≡ Some x → IfSome found P → P x
+if_some P None x is holds = absurd cc
+if_some P (Some y) x is holds = subst P (same_Some y x is) holds
+
+-- ---- the first that passes a test
+
+found_one : {X : Type 0} (p : X → Bool) (y x : X) (ys : List X) (b : Bool) → p y ≡ b → (find p ys ≡ Some x → Among ys x × (p x ≡ true)) → cond b (Some y) (find p ys) ≡ Some x
+    → Among (y ∷ ys) x × (p x ≡ true)
+found_one p y x ys true is rest h = let here : y ≡ x = same_Some y x h in (inl here, subst (λ (z : _). p z ≡ true) here is)
+found_one p y x ys false is rest h = let there = rest h in (inr there.0, there.1)
+
+-- it is in the list, and passes
+pub find_among : {X : Type 0} (p : X → Bool) (xs : List X) (x : X) → find p xs ≡ Some x → Among xs x × (p x ≡ true)
+find_among p [] x h = absurd cc
+find_among p (y ∷ ys) x h = found_one p y x ys (p y) refl (find_among p ys x) h
+
+none_step : {X : Type 0} (y : X) (rest : Option X) (b : Bool) → (b ≡ false → rest ≡ None → ⊥) → cond b (Some y) rest ≡ None → ⊥
+none_step y rest true later none = cc
+none_step y rest false later none = later refl none
+
+-- where one passes, one is found
+pub among_find : {X : Type 0} (p : X → Bool) (xs : List X) (x : X) → Among xs x → p x ≡ true → find p xs ≡ None → ⊥
+among_find p [] x there passes none = there
+among_find p (y ∷ xs) x (inl is) passes none = none_step y (find p xs) (p y) (λ fails rest. let both : true ≡ false = sym (ap p is ∙ passes) ∙ fails in cc) none
+among_find p (y ∷ xs) x (inr there) passes none = none_step y (find p xs) (p y) (λ fails rest. among_find p xs x there passes rest) none
+
+mapped_here : {X Y : Type 0} (f : X → Y) (p : Y → Bool) (z x : X) (rest : Option Y) (b : Bool) → p (f z) ≡ b → z ≡ x → p (f x) ≡ true → cond b (Some (f z)) rest ≡ Some (f x)
+mapped_here f p z x rest true is same passes = ap (λ (w : _). Some (f w)) same
+mapped_here f p z x rest false is same passes = absurd (let there : p (f z) ≡ p (f x) = ap (λ (w : _). p (f w)) same in cc)
+
+mapped_later : {X Y : Type 0} (f : X → Y) (p : Y → Bool) (z x : X) (rest : Option Y) (b : Bool) → p (f z) ≡ b → (p (f z) ≡ true → z ≡ x) → rest ≡ Some (f x) → cond b (Some (f z)) rest ≡ Some (f x)
+mapped_later f p z x rest true is only later = ap (λ (w : _). Some (f w)) (only is)
+mapped_later f p z x rest false is only later = later
+
+-- the first of the values at the elements, where one element alone has a value that passes
+pub find_map : {X Y : Type 0} (f : X → Y) (p : Y → Bool) (xs : List X) (x : X) → Among xs x → p (f x) ≡ true → ((z : X) → p (f z) ≡ true → z ≡ x) → find p (map f xs) ≡ Some (f x)
+find_map f p [] x h passes only = absurd h
+find_map f p (z ∷ xs) x (inl is) passes only = mapped_here f p z x (find p (map f xs)) (p (f z)) refl is passes
+find_map f p (z ∷ xs) x (inr there) passes only = mapped_later f p z x (find p (map f xs)) (p (f z)) refl (only z) (find_map f p xs x there passes only)
+
+first_same : {X : Type 0} (f h : X → Bool) → ((x : X) → f x ≡ h x) → (xs : List X) → position_or_len f xs ≡ position_or_len h xs
+first_same f h agree [] = refl
+first_same f h agree (x ∷ xs) = ap₂ (λ (b : Bool) (n : ℕ). cond (not b) (1 + n) 0) (agree x) (first_same f h agree xs)
+
+-- tests that agree find the first at one index
+pub position_same : {X : Type 0} (f h : X → Bool) → ((x : X) → f x ≡ h x) → (xs : List X) → position f xs ≡ position h xs
+position_same f h agree xs = ap (λ (n : ℕ). cond (nat_lt n (length xs)) (Some n) None) (first_same f h agree xs)
