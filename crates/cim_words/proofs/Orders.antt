@@ -1,12 +1,12 @@
 -- The order of statements is total, and it tells different statements apart.
-use Rattle.std.proofs.Common.{◌≡◌, ℕ, ◌-◌, get_or, refl, ap, sym, ◌∙◌, arith}
+use Rattle.std.proofs.Common.{◌≡◌, ℕ, ◌-◌, get_or, refl, ap, sym, ◌∙◌}
 use Rattle.std.specs.Cmp.{IsTotalOrder}
 use Rattle.std.specs.Ordering.{nat_cmp, ordering_then, ordering_reverse}
-use Rattle.std.specs.declared.cmp.Ordering.{Ordering}
-use Rattle.std.specs.declared.cmp.Ordering.TheVariants.{Less, Equal, Greater}
-use Rattle.std.proofs.lemmas.Bool.Decides.{nat_tests}
+use Rattle.std.specs.declared.cmp.Ordering.TheVariants.{Less, Equal}
 use Rattle.std.proofs.lemmas.Cmp.{nat_cmp_total, nat_list_cmp_total, on_total, then_total}
 use Rattle.std.proofs.lemmas.Map.Lookups.{exact_bytes}
+use Rattle.plain_laws.proofs.Numbers.{cmp_equal}
+use Rattle.plain_laws.proofs.Sorted.{then_equal}
 use Rattle.cim_words.specs.KnownProp.{known_row}
 use Rattle.cim_words.specs.Order.{prop_order, object_order, statement_order}
 use Rattle.cim_words.specs.declared.identifier.Id.{Id}
@@ -116,16 +116,8 @@ statement_order_total = then_total (on_total subject_of nat_cmp_total) (then_tot
 
 -- ---- what ties is one
 
-then_equal : (o p : Ordering) → ordering_then o p ≡ Equal → (o ≡ Equal) × (p ≡ Equal)
-then_equal Less p h = absurd cc
-then_equal Equal p h = (refl, h)
-then_equal Greater p h = absurd cc
-
-same_number : (m n : ℕ) → nat_cmp m n ≡ Equal → m ≡ n
-same_number m n h = grind (arith, nat_tests)
-
 same_id : (i j : Id) → nat_cmp i.number j.number ≡ Equal → i ≡ j
-same_id i j h = let again : ℕ → Id = λ n. record { number = n } in ap again (same_number i.number j.number h)
+same_id i j h = let again : ℕ → Id = λ n. record { number = n } in ap again (cmp_equal i.number j.number h)
 
 -- a known property stands in its row
 at_row : (k : KnownProp) → get_or KNOWN_PROPS (known_row k - 1) K1 ≡ k
@@ -154,7 +146,7 @@ same_row : (k l : KnownProp) → known_row k ≡ known_row l → k ≡ l
 same_row k l e = sym (at_row k) ∙ ap (λ (n : ℕ). get_or KNOWN_PROPS (n - 1) K1) e ∙ at_row l
 
 same_prop : (p q : Prop) → prop_order p q ≡ Equal → p ≡ q
-same_prop (prop.Known k) (prop.Known l) h = ap prop.Known (same_row k l (same_number (known_row k) (known_row l) h))
+same_prop (prop.Known k) (prop.Known l) h = ap prop.Known (same_row k l (cmp_equal (known_row k) (known_row l) h))
 same_prop (prop.Known k) (prop.Other u) h = absurd cc
 same_prop (prop.Other t) (prop.Known l) h = absurd cc
 same_prop (prop.Other t) (prop.Other u) h = ap prop.Other (exact_bytes t u h)

@@ -1,7 +1,9 @@
 -- What holds of each element of a list, by recursion over it and by membership.
 use Rattle.std.proofs.Common.{inl, inr, List, [], ◌∷◌, ◌++◌, map, Bool, true, false, cond, refl, subst}
-use Rattle.std.specs.List.{All, AllByRecursion, filter}
-use Rattle.plain_laws.proofs.Members.{Among, among_index}
+use Rattle.std.specs.Prelude.{Contains}
+use Rattle.std.specs.List.{All, AllByRecursion, filter, flat_map}
+use Rattle.std.proofs.lemmas.List.Elements.{All-contains}
+use Rattle.plain_laws.proofs.Members.{Among, among_index, contains_among, flat_map_among}
 
 pub each_from_among : {X : Type 0} (P : X → Type 0) (xs : List X) → ((x : X) → Among xs x → P x) → AllByRecursion P xs
 each_from_among P [] each = tt
@@ -23,6 +25,9 @@ pub each_append : {X : Type 0} (P : X → Type 0) (xs ys : List X) → AllByRecu
 each_append P [] ys first second = second
 each_append P (x ∷ xs) ys first second = (first.0, each_append P xs ys first.1 second)
 
+pub each_push : {X : Type 0} (P : X → Type 0) (xs : List X) (x : X) → AllByRecursion P xs → P x → AllByRecursion P (xs ++ x ∷ [])
+each_push P xs x all one = each_append P xs (x ∷ []) all (one, tt)
+
 kept_one : {X : Type 0} (P : X → Type 0) (x : X) (xs : List X) (b : Bool) → P x → AllByRecursion P xs → AllByRecursion P (cond b (x ∷ xs) xs)
 kept_one P x xs true one all = (one, all)
 kept_one P x xs false one all = all
@@ -39,3 +44,8 @@ each_weaker P Q (x ∷ xs) weaker all = (weaker x all.0, each_weaker P Q xs weak
 -- the same of std's All
 pub all_from_among : {X : Type 0} (P : X → Type 0) (xs : List X) → ((x : X) → Among xs x → P x) → All P xs
 all_from_among P xs each k d below = each _ (among_index xs k d below)
+
+pub all_flat_map : {X Y : Type 0} (P : Y → Type 0) (f : X → List Y) (xs : List X) → ((x : X) → Contains xs x → All P (f x)) → All P (flat_map f xs)
+all_flat_map P f xs each = all_from_among P (flat_map f xs) (λ y there.
+    let from = flat_map_among f xs y there in
+    All-contains P (f from.0) y (each from.0 (contains_among xs from.0 from.1)) (contains_among (f from.0) y from.2))

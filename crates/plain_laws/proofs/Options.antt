@@ -1,5 +1,5 @@
 -- What may be missing, and the first of a list that passes a test. More of these laws stand in the standard library, in Option.
-use Rattle.std.proofs.Common.{◌≡◌, ℕ, ◌+◌, inl, inr, List, [], ◌∷◌, map, length, Bool, true, false, not, cond, nat_lt, Option, Some, None, IsTrue, IfSome, is_none, find, position, refl, ap, ap₂, sym, ◌∙◌, subst}
+use Rattle.std.proofs.Common.{◌≡◌, ℕ, ◌+◌, inl, inr, List, [], ◌∷◌, map, length, Bool, true, false, not, cond, nat_lt, Option, Some, None, IsTrue, IfSome, is_none, find, position, if◌then◌else◌, refl, ap, ap₂, sym, ◌∙◌, subst}
 use Rattle.std.specs.List.{position_or_len}
 use Rattle.std.proofs.lemmas.Option.{same_Some}
 use Rattle.plain_laws.proofs.Members.{Among}
@@ -14,6 +14,11 @@ none_from_test (Some x) is = absurd cc
 pub if_some : {X : Type 0} (P : X → Type 0) (found : Option X) (x : X) → found ≡ Some x → IfSome found P → P x
 if_some P None x is holds = absurd cc
 if_some P (Some y) x is holds = subst P (same_Some y x is) holds
+
+-- what is said under a condition alone
+pub if_then_some : {X : Type 0} (b : Bool) (o : Option X) (x : X) → (if b then o else None) ≡ Some x → (b ≡ true) × (o ≡ Some x)
+if_then_some true o x is = (refl, is)
+if_then_some false o x is = absurd cc
 
 -- ---- the first that passes a test
 

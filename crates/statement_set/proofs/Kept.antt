@@ -6,6 +6,8 @@ use Rattle.std.specs.Ordering.{is_eq}
 use Rattle.std.proofs.lemmas.List.Elements.{filter_more}
 use Rattle.std.proofs.lemmas.List.Kept.{IsStrictlySortedBy-filter}
 use Rattle.std.proofs.lemmas.Map.Views.{any-filter_same}
+use Rattle.std.proofs.lemmas.Bool.{and_from, and_parts, false_from_ne_true}
+use Rattle.plain_laws.proofs.Truth.{not_both}
 use Rattle.cim_words.specs.Order.{statement_order}
 use Rattle.cim_words.specs.declared.statement.Statement.{Statement}
 use Rattle.cim_words.proofs.Orders.{tied_statements}
@@ -16,16 +18,8 @@ use Rattle.statement_set.proofs.Members.{holds, holds-iff}
 abbrev pub stays : List Statement → Statement → Bool
 stays gone s = not (holds gone s)
 
-not_true : (b : Bool) → (b ≡ true → ⊥) → b ≡ false
-not_true true h = absurd (h refl)
-not_true false h = refl
-
-not_both : (b : Bool) → not b ≡ true → b ≡ true → ⊥
-not_both true h g = let e : false ≡ true = h in cc
-not_both false h g = cc
-
 staying : (gone : List Statement) (s : Statement) → (Contains gone s → ⊥) → stays gone s ≡ true
-staying gone s out = ap not (not_true (holds gone s) (λ h. out ((holds-iff gone s).0 h)))
+staying gone s out = ap not (false_from_ne_true (holds gone s) (λ h. out ((holds-iff gone s).0 h)))
 
 going : (gone : List Statement) (s : Statement) → Contains gone s → stays gone s ≡ false
 going gone s inside = ap not ((holds-iff gone s).1 inside)
@@ -44,13 +38,6 @@ pub copied : (gone statements : List Statement) (i : ℕ) (s : Statement) → i 
 copied gone statements i s within is out =
     sym (filter_more (stays gone) statements i s within ∙ rw (← is, staying gone s out) refl)
 
-first_so : (a b : Bool) → (a && b) ≡ true → (a ≡ true) × (b ≡ true)
-first_so true b h = (refl, h)
-first_so false b h = absurd (let e : false ≡ true = h in cc)
-
-both_so : (a b : Bool) → a ≡ true → b ≡ true → (a && b) ≡ true
-both_so a b h g = λ i. h i && g i
-
 filtered : (gone statements : List Statement) (s : Statement) → holds (filter (stays gone) statements) s ≡ (stays gone s && holds statements s)
 unfolding holds
 filtered gone statements s = any-filter_same (λ t. is_eq (statement_order s t)) (stays gone) (stays gone s) (λ t tied. ap (stays gone) (sym (tied_statements s t ((Equal-is (statement_order s t)).0 tied)))) statements
@@ -64,9 +51,9 @@ difference gone statements ordered = record {
   where
     there : (s : Statement) → Contains (filter (stays gone) statements) s → IsInFirstAlone statements gone s
     there s inside =
-        let both = first_so (stays gone s) (holds statements s) (sym (filtered gone statements s) ∙ (holds-iff (filter (stays gone) statements) s).1 inside) in
+        let both = and_parts (stays gone s) (holds statements s) (sym (filtered gone statements s) ∙ (holds-iff (filter (stays gone) statements) s).1 inside) in
         ((holds-iff statements s).0 both.1, λ h. not_both (holds gone s) both.0 ((holds-iff gone s).1 h))
 
     back : (s : Statement) → IsInFirstAlone statements gone s → Contains (filter (stays gone) statements) s
     back s (inside, out) =
-        (holds-iff (filter (stays gone) statements) s).0 (filtered gone statements s ∙ both_so (stays gone s) (holds statements s) (staying gone s out) ((holds-iff statements s).1 inside))
+        (holds-iff (filter (stays gone) statements) s).0 (filtered gone statements s ∙ and_from (stays gone s) (holds statements s) (staying gone s out) ((holds-iff statements s).1 inside))

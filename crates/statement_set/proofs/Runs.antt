@@ -1,14 +1,11 @@
 -- The statements at the front about the first one's subject, and walks by steps over a list.
-use Rattle.std.proofs.Common.{◌≡◌, ℕ, ◌<◌, ◌≤◌, ◌==◌, List, [], ◌∷◌, length, take, drop, get_or, true, Option, Some, unwrap_or, ap, arith}
+use Rattle.std.proofs.Common.{◌≡◌, ◌<◌, ◌≤◌, ◌==◌, List, [], ◌∷◌, length, take, drop, get_or, Option, Some, unwrap_or, ap, arith}
 use Rattle.std.specs.List.{prefix_len}
-use Rattle.std.proofs.lemmas.Bool.Decides.{nat_tests}
 use Rattle.std.proofs.lemmas.List.Sums.{prefix_len-le-length}
+use Rattle.plain_laws.proofs.Numbers.{equal_itself}
 use Rattle.cim_words.specs.declared.identifier.Id.{Id}
 use Rattle.cim_words.specs.declared.statement.Statement.{Statement}
 use Rattle.statement_set.specs.Runs.{run_of, TakesSubject}
-
-number_itself : (n : ℕ) → (n == n) ≡ true
-number_itself n = grind (arith, nat_tests)
 
 pub run_is : (rest : List Statement) (first : Statement) → 1 ≤ length rest → first ≡ get_or rest 0 first → prefix_len (λ (t : Statement). t.subject.number == first.subject.number) rest ≡ run_of rest
 run_is [] first some is = absurd (omega arith)
@@ -20,7 +17,7 @@ run_within (s ∷ rest) = prefix_len-le-length (λ (t : Statement). t.subject.nu
 
 pub run_some : (rest : List Statement) → 1 ≤ length rest → 0 < run_of rest
 run_some [] some = absurd (omega arith)
-run_some (s ∷ rest) some = rw (number_itself s.subject.number) (omega arith)
+run_some (s ∷ rest) some = rw (equal_itself s.subject.number) (omega arith)
 
 -- what a step takes off the front of some statements
 pub record IsTaken (s : Statement) (more : List Statement) (id : Id) (about after : List Statement) : Type 0 where
