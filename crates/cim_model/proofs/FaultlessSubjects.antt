@@ -1,6 +1,10 @@
 -- What the rules of the profile leave a subject of a model without fault to say.
 use Rattle.std.proofs.Common.{◌≡◌, ℕ, inl, inr, List, [], ◌∷◌, length, Bool, true, false, not, ◌&&◌, ◌||◌, nat_lt, Some, refl, ap, arith, ltb-false}
 use Rattle.std.specs.List.{filter_map, list_any}
+use Rattle.std.proofs.lemmas.Bool.{false_from_ne_true, not-false, or_right}
+use Rattle.plain_laws.proofs.Members.{Among}
+use Rattle.plain_laws.proofs.Tests.{none_among}
+use Rattle.plain_laws.proofs.Truth.{and_first_false}
 use Rattle.cim_words.specs.Groups.{is_terminal, is_clamp, is_cut, is_known_class}
 use Rattle.cim_words.specs.declared.class.Class.{Class}
 use Rattle.cim_words.specs.declared.known_prop.KnownProp.{KnownProp}
@@ -12,28 +16,15 @@ use Rattle.cim_model.specs.Model.{class_named, counts, id_said, is_empty, is_of,
 use Rattle.cim_model.specs.Network.{value_of}
 use Rattle.cim_model.specs.Profile.{IsFaultless, attributes, breaks, breaks_once, breaks_owner, breaks_target, breaks_type, is_one_name, names_target, names_wrongly, references, states_twice}
 use Rattle.cim_model.specs.Stated.{terminals_of}
-use Rattle.cim_model.proofs.ListMembers.{Among, among_any}
-use Rattle.cim_model.proofs.Runs.{not_true, or_right}
 use Rattle.cim_model.proofs.SaidLemmas.{class_subject, said_subject, value_is}
 
 -- a subject breaks no rule
 pub keeps : (m : List Statement) (rule x : ℕ) → IsFaultless m → is_subject m x ≡ true → breaks m rule x ≡ false
-keeps m rule x faultless subject = not_true (breaks m rule x) (λ h. faultless rule x (record { subject = subject; broken = h }))
+keeps m rule x faultless subject = false_from_ne_true (breaks m rule x) (λ h. faultless rule x (record { subject = subject; broken = h }))
 
 pub passes_unless : (a b : Bool) → (not a && b) ≡ false → b ≡ true → a ≡ true
 passes_unless true b h is = refl
 passes_unless false b h is = absurd cc
-
-pub fails_if : (a b : Bool) → (a && b) ≡ false → b ≡ true → a ≡ false
-fails_if true b h is = absurd cc
-fails_if false b h is = refl
-
-pub none_passes : {X : Type 0} (p : X → Bool) (xs : List X) (x : X) → list_any p xs ≡ false → Among xs x → p x ≡ false
-none_passes p xs x none there = not_true (p x) (λ passes. let some : list_any p xs ≡ true = among_any p xs x there passes in cc)
-
-pub not_failed : (b : Bool) → not b ≡ false → b ≡ true
-not_failed true h = refl
-not_failed false h = absurd cc
 
 pub among_some : {X : Type 0} (xs : List X) (x : X) → Among xs x → is_empty xs ≡ false
 among_some [] x h = absurd h
@@ -66,7 +57,7 @@ only_one (y ∷ z ∷ xs) x few there = absurd (omega (arith, ltb-false))
 pub said_once : (m : List Statement) (x : ℕ) (k : KnownProp) (o : Object) → IsFaultless m → Among attributes k → counts m x k ≡ true → Among (said m x k) o → said m x k ≡ o ∷ []
 said_once m x k o faultless listed counted there =
     let kept : breaks_once m x ≡ false = keeps m 2 x faultless (said_subject m x k o there) in
-    only_one (said m x k) o (fails_if (nat_lt 1 (length (said m x k))) (counts m x k) (none_passes (states_twice m x) attributes k kept listed) counted) there
+    only_one (said m x k) o (and_first_false (nat_lt 1 (length (said m x k))) (counts m x k) (none_among (states_twice m x) attributes k kept listed) counted) there
 
 -- a terminal says something by the property of its equipment
 says_one : (a b c d e f : Bool) → (a && b || c && d || e && f) ≡ false → a ≡ true → b ≡ false
@@ -83,8 +74,8 @@ owner_said m t faultless terminal =
 pub target_said : (m : List Statement) (x : ℕ) (k : KnownProp) (o : Object) → IsFaultless m → Among references k → counts m x k ≡ true → Among (said m x k) o → names_target m k o ≡ true
 target_said m x k o faultless listed counted there =
     let kept : breaks_target m x ≡ false = keeps m 4 x faultless (said_subject m x k o there) in
-    let right : list_any (λ o. not (names_target m k o)) (said m x k) ≡ false = fails_if (list_any (λ o. not (names_target m k o)) (said m x k)) (counts m x k) (none_passes (names_wrongly m x) references k kept listed) counted in
-    not_failed (names_target m k o) (none_passes (λ o. not (names_target m k o)) (said m x k) o right there)
+    let right : list_any (λ o. not (names_target m k o)) (said m x k) ≡ false = and_first_false (list_any (λ o. not (names_target m k o)) (said m x k)) (counts m x k) (none_among (names_wrongly m x) references k kept listed) counted in
+    not-false (names_target m k o) (none_among (λ o. not (names_target m k o)) (said m x k) o right there)
 
 -- what a reference that counts says is its value
 names_id : (m : List Statement) (k : KnownProp) (o : Object) → names_target m k o ≡ true → (y : ℕ) × (id_said o ≡ Some y)

@@ -1,8 +1,9 @@
 -- The sides of an item: whose terminals they are, and where they stand.
 use Rattle.std.proofs.Common.{◌≡◌, ◌⊎◌, ℕ, inl, inr, [], ◌∷◌, true, IsTrue, Some, Contains, refl, ap, subst}
+use Rattle.plain_laws.proofs.Members.{Among, contains_among, map_among}
+use Rattle.plain_laws.proofs.Numbers.{equal_itself}
+use Rattle.plain_laws.proofs.Tests.{among_any}
 use Rattle.cim_words.specs.declared.identifier.Id.{Id}
-use Rattle.cim_model.proofs.ListMembers.{Among, among_any, contains_among, map_among}
-use Rattle.cim_model.proofs.Runs.{number_itself}
 use Rattle.room_words.specs.Items.{anchors, item_id, item_place, item_terms, makes, own_places, standing, term_in}
 use Rattle.room_words.specs.Terms.{same_anchor}
 use Rattle.room_words.specs.declared.anchor.Anchor.{Anchor}
@@ -36,15 +37,15 @@ item_term_side one t there = let s = map_among term_in (standing one) t there in
 -- a side stands where its item says
 
 pub place_stated : (one : TempItem) (s : Anchor × Term) → Among (standing one) s → item_place one s.1 ≡ Some s.0
-place_stated (item.Cut id segment length is_open) s (inl is) = subst (λ (s : Anchor × Term). item_place (item.Cut id segment length is_open) s.1 ≡ Some s.0) is (rw (number_itself id.number) refl)
-place_stated (item.Cut id segment length is_open) s (inr (inl is)) = subst (λ (s : Anchor × Term). item_place (item.Cut id segment length is_open) s.1 ≡ Some s.0) is (rw (number_itself id.number) refl)
+place_stated (item.Cut id segment length is_open) s (inl is) = subst (λ (s : Anchor × Term). item_place (item.Cut id segment length is_open) s.1 ≡ Some s.0) is (rw (equal_itself id.number) refl)
+place_stated (item.Cut id segment length is_open) s (inr (inl is)) = subst (λ (s : Anchor × Term). item_place (item.Cut id segment length is_open) s.1 ≡ Some s.0) is (rw (equal_itself id.number) refl)
 place_stated (item.Cut id segment length is_open) s (inr (inr there)) = absurd there
-place_stated (item.Clamp id segment length) s (inl is) = subst (λ (s : Anchor × Term). item_place (item.Clamp id segment length) s.1 ≡ Some s.0) is (rw (number_itself id.number) refl)
+place_stated (item.Clamp id segment length) s (inl is) = subst (λ (s : Anchor × Term). item_place (item.Clamp id segment length) s.1 ≡ Some s.0) is (rw (equal_itself id.number) refl)
 place_stated (item.Clamp id segment length) s (inr there) = absurd there
-place_stated (item.Jumper id first second phases is_open) s (inl is) = subst (λ (s : Anchor × Term). item_place (item.Jumper id first second phases is_open) s.1 ≡ Some s.0) is (rw (number_itself id.number) refl)
-place_stated (item.Jumper id first second phases is_open) s (inr (inl is)) = subst (λ (s : Anchor × Term). item_place (item.Jumper id first second phases is_open) s.1 ≡ Some s.0) is (rw (number_itself id.number) refl)
+place_stated (item.Jumper id first second phases is_open) s (inl is) = subst (λ (s : Anchor × Term). item_place (item.Jumper id first second phases is_open) s.1 ≡ Some s.0) is (rw (equal_itself id.number) refl)
+place_stated (item.Jumper id first second phases is_open) s (inr (inl is)) = subst (λ (s : Anchor × Term). item_place (item.Jumper id first second phases is_open) s.1 ≡ Some s.0) is (rw (equal_itself id.number) refl)
 place_stated (item.Jumper id first second phases is_open) s (inr (inr there)) = absurd there
-place_stated (item.Ground id at phases) s (inl is) = subst (λ (s : Anchor × Term). item_place (item.Ground id at phases) s.1 ≡ Some s.0) is (rw (number_itself id.number) refl)
+place_stated (item.Ground id at phases) s (inl is) = subst (λ (s : Anchor × Term). item_place (item.Ground id at phases) s.1 ≡ Some s.0) is (rw (equal_itself id.number) refl)
 place_stated (item.Ground id at phases) s (inr there) = absurd there
 
 -- it stands at a place that the item makes, or at an anchor

@@ -1,11 +1,9 @@
 pub mod AscendingLists
 pub mod Classes
-pub mod ContainsCases
 pub mod FaultlessSubjects
 pub mod FaultlessTerminals
 pub mod ItemSides
 pub mod LengthBounds
-pub mod ListMembers
 pub mod LiveMarks
 pub mod LivePlaces
 pub mod LiveTerms
@@ -14,10 +12,10 @@ pub mod MarkPlaces
 pub mod Marks
 pub mod OneTrace
 pub mod OverlayItems
-pub mod Pairs
 pub mod Runs
 pub mod SaidLemmas
 pub mod Standing
 pub mod SubjectLists
+pub mod SubjectWalks
 pub mod TerminalSides
 pub mod WalkInduction

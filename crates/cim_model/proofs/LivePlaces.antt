@@ -2,6 +2,9 @@
 use Rattle.std.proofs.Common.{◌≡◌, ℕ, inl, inr, List, map, Bool, true, false, cond, Option, Some, None, option_map, unwrap_or, find, refl, ap, sym, ◌∙◌, subst}
 use Rattle.std.specs.List.{flat_map}
 use Rattle.std.proofs.lemmas.Option.{same_Some}
+use Rattle.plain_laws.proofs.Members.{Among, among_either, among_filter, among_filter_map, among_filter_passes, among_flat_map, among_left, among_map, among_right, filter_among, filter_map_among, flat_map_among, map_among}
+use Rattle.plain_laws.proofs.Options.{find_among}
+use Rattle.plain_laws.proofs.Tests.{among_any}
 use Rattle.cim_words.specs.PhaseNames.{and_then}
 use Rattle.cim_words.specs.declared.statement.Statement.{Statement}
 use Rattle.cim_model.specs.Live.{at_node, is_place, is_term, owned, place_of, real, real_terms_at, stated_place, terms_at}
@@ -10,9 +13,8 @@ use Rattle.cim_model.specs.Stated.{terminals_at}
 use Rattle.cim_model.specs.Values.{as_id}
 use Rattle.cim_model.proofs.FaultlessTerminals.{listed_standing, node_is, standing_listed}
 use Rattle.cim_model.proofs.ItemSides.{IsSideOf, item_term_side, no_node_made, place_stated, standing_at}
-use Rattle.cim_model.proofs.ListMembers.{Among, among_any, among_either, among_filter, among_filter_map, among_left, among_map, among_right, filter_among, filter_map_among, filter_passes, find_among, map_among}
 use Rattle.cim_model.proofs.LiveTerms.{item_listed, listed_term, real_listed, term_listed}
-use Rattle.cim_model.proofs.OverlayItems.{IsLive, among_flat_map, flat_map_among, found_item, item_found, item_stands}
+use Rattle.cim_model.proofs.OverlayItems.{IsLive, found_item, item_found, item_stands}
 use Rattle.cim_model.proofs.TerminalSides.{side_owned}
 use Rattle.room_words.specs.Items.{item_place, item_terms, item_terms_at, makes, standing, term_in}
 use Rattle.room_words.specs.Overlay.{item_of}
@@ -61,7 +63,7 @@ item_placed : (m : List Statement) (o : Overlay) (place : Anchor) (one : TempIte
 item_placed m o place one t live there at =
     let s = map_among term_in _ t at in
     let listed = filter_among (λ (s : Anchor × Term). same_anchor s.0 place) (standing one) s.0 s.1 in
-    let here : s.0.0 ≡ place = (live.places s.0.0 place).0 (filter_passes (λ (s : Anchor × Term). same_anchor s.0 place) (standing one) s.0 s.1) in
+    let here : s.0.0 ≡ place = (live.places s.0.0 place).0 (among_filter_passes (λ (s : Anchor × Term). same_anchor s.0 place) (standing one) s.0 s.1) in
     let own : Among (item_terms one) t = subst (Among (item_terms one)) s.2 (among_map term_in (standing one) s.0 listed) in
     let side = item_term_side one t own in
     let is : item_of o t.owner.number ≡ Some one = ap (λ (id : _). item_of o id.number) side.owner ∙ item_found m o one live there in

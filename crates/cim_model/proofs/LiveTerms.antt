@@ -1,11 +1,12 @@
 -- The terminals of a live network: each belongs to its owner, which is equipment or an item.
 use Rattle.std.proofs.Common.{◌≡◌, ◌↔◌, ℕ, List, map, true, ◌||◌, IsTrue, Option, Some, None, is_some, option_map, unwrap_or, refl, ap, sym, ◌∙◌, subst}
+use Rattle.plain_laws.proofs.Members.{Among, among_map, map_among}
+use Rattle.plain_laws.proofs.Tests.{among_any, any_among}
 use Rattle.cim_words.specs.declared.statement.Statement.{Statement}
 use Rattle.cim_model.specs.Live.{is_live, is_term, real, terms_of}
 use Rattle.cim_model.specs.Network.{is_equipment, owner_of, terminals_by_side}
 use Rattle.cim_model.proofs.FaultlessTerminals.{owner_equipment, owner_subject}
 use Rattle.cim_model.proofs.ItemSides.{item_term_side}
-use Rattle.cim_model.proofs.ListMembers.{Among, among_any, among_map, any_among, map_among}
 use Rattle.cim_model.proofs.OverlayItems.{IsLive, found_item, no_item, says_item, says_other}
 use Rattle.cim_model.proofs.TerminalSides.{owned_side, side_owned}
 use Rattle.room_words.specs.Items.{item_number, item_terms}

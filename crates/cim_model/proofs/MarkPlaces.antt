@@ -1,6 +1,11 @@
 -- How far the cuts and clamps of a model without fault are, and that no cut is at the place of another mark of its segment.
 use Rattle.std.proofs.Common.{◌≡◌, ◌≢◌, ℕ, ◌≤◌, ◌⊎◌, inl, inr, List, [], ◌∷◌, Bool, true, false, not, ◌&&◌, ◌||◌, ◌==◌, nat_eq, is_some, Option, Some, None, unwrap_or, refl, sym, subst, arith, ⊎_elim}
 use Rattle.std.specs.List.{cons_option, filter_map, list_any}
+use Rattle.std.proofs.lemmas.Bool.{eqb-true, not-false, or_parts}
+use Rattle.plain_laws.proofs.Members.{Among, among_filter, among_filter_map, among_filter_passes}
+use Rattle.plain_laws.proofs.Numbers.{equal_itself}
+use Rattle.plain_laws.proofs.Tests.{among_any, none_among}
+use Rattle.plain_laws.proofs.Truth.{and_first_false}
 use Rattle.cim_words.specs.Limits.{most_length}
 use Rattle.cim_words.specs.Groups.{is_clamp, is_cut}
 use Rattle.cim_words.specs.declared.class.Class.{Class}
@@ -14,11 +19,9 @@ use Rattle.cim_model.specs.Network.{first, mark_length, or_else, segment_of, val
 use Rattle.cim_model.specs.Profile.{IsFaultless, breaks_form, breaks_place, has_form, is_beyond, is_clamp_misplaced, is_cut_misplaced, share_one, shares_place, shares_with_clamp, shares_with_cut, states_wrongly, values}
 use Rattle.cim_model.specs.Stated.{clamp_lengths, clamps_of, cut_lengths, cuts_of, ids_said, or_zero, stated_lengths}
 use Rattle.cim_model.specs.Values.{length_said}
-use Rattle.cim_model.proofs.FaultlessSubjects.{fails_if, keeps, none_passes, not_failed}
+use Rattle.cim_model.proofs.FaultlessSubjects.{keeps}
 use Rattle.cim_model.proofs.LengthBounds.{said_within}
-use Rattle.cim_model.proofs.ListMembers.{Among, among_any, among_filter, among_filter_map, filter_passes}
 use Rattle.cim_model.proofs.Marks.{either_value, not_other, uncounted}
-use Rattle.cim_model.proofs.Runs.{neither, number_itself, same_number}
 use Rattle.cim_model.proofs.SaidLemmas.{IsStated, class_subject, said_subject, says_naming, value_stated}
 
 -- ---- a cut is no clamp
@@ -55,8 +58,8 @@ mark_within m y = of_zero (or_else (value_of length_said m y property.clamp_leng
 form_said : (m : List Statement) (x : ℕ) (k : KnownProp) (o : Object) → IsFaultless m → Among values k → counts m x k ≡ true → Among (said m x k) o → has_form k o ≡ true
 form_said m x k o faultless listed counted there =
     let kept : breaks_form m x ≡ false = keeps m 7 x faultless (said_subject m x k o there) in
-    let right : list_any (λ o. not (has_form k o)) (said m x k) ≡ false = fails_if (list_any (λ o. not (has_form k o)) (said m x k)) (counts m x k) (none_passes (states_wrongly m x) values k kept listed) counted in
-    not_failed (has_form k o) (none_passes (λ o. not (has_form k o)) (said m x k) o right there)
+    let right : list_any (λ o. not (has_form k o)) (said m x k) ≡ false = and_first_false (list_any (λ o. not (has_form k o)) (said m x k)) (counts m x k) (none_among (states_wrongly m x) values k kept listed) counted in
+    not-false (has_form k o) (none_among (λ o. not (has_form k o)) (said m x k) o right there)
 
 first_length : (o : Option ℕ) (more : List ℕ) → is_some o ≡ true → Among (cons_option o more) (unwrap_or (first (cons_option o more)) 0)
 first_length None more some = absurd cc
@@ -98,16 +101,16 @@ place_free m x y faultless cut on =
     let kept : breaks_place m y ≡ false = keeps m 8 y faultless (class_subject m is_cut y cut) in
     let stated : IsStated id_said m y property.cut_segment x = cut_states m x y faultless cut on in
     let placed : is_cut_misplaced m y ≡ false = of_cut (is_of m is_clamp y) (is_clamp_misplaced m y) (is_of m is_cut y) (is_cut_misplaced m y) kept cut in
-    let free = none_passes (λ s. is_beyond (cut_lengths m y) (stated_lengths m s) || shares_place m y (cut_lengths m y) s) (ids_said m y property.cut_segment) x placed
+    let free = none_among (λ s. is_beyond (cut_lengths m y) (stated_lengths m s) || shares_place m y (cut_lengths m y) s) (ids_said m y property.cut_segment) x placed
     (among_filter_map id_said (said m y property.cut_segment) stated.object x stated.said stated.read) in
-    (neither (is_beyond (cut_lengths m y) (stated_lengths m x)) (shares_place m y (cut_lengths m y) x) free).1
+    (or_parts (is_beyond (cut_lengths m y) (stated_lengths m x)) (shares_place m y (cut_lengths m y) x) free).1
   where
     of_cut : (a b c d : Bool) → (a && b || c && d) ≡ false → c ≡ true → d ≡ false
-    of_cut a b true d h is = (neither (a && b) d h).1
+    of_cut a b true d h is = (or_parts (a && b) d h).1
     of_cut a b false d h is = absurd cc
 
 shared : (ns ms : List ℕ) (n : ℕ) → Among ns n → Among ms n → share_one ns ms ≡ true
-shared ns ms n here there = among_any (λ k. list_any (nat_eq k) ms) ns n here (among_any (nat_eq n) ms n there (number_itself n))
+shared ns ms n here there = among_any (λ k. list_any (nat_eq k) ms) ns n here (among_any (nat_eq n) ms n there (equal_itself n))
 
 other_shares : (y z : ℕ) (ns ms : List ℕ) (n k : ℕ) → y ≢ z → n ≡ k → Among ns n → Among ms k → (not (z == y) && share_one ns ms) ≡ false → ⊥
 other_shares y z ns ms n k other same here there none = differs (z == y) refl
@@ -116,16 +119,16 @@ other_shares y z ns ms n k other same here there none = differs (z == y) refl
     shares = shared ns ms n here (subst (Among ms) (sym same) there)
 
     differs : (b : Bool) → (z == y) ≡ b → ⊥
-    differs true is = other (sym (same_number z y is))
+    differs true is = other (sym (eqb-true z y is))
     differs false is = let both : (not (z == y) && share_one ns ms) ≡ true = rw (is, shares) refl in cc
 
 pub cut_apart : (m : List Statement) (x y z : ℕ) → IsFaultless m → is_of m is_cut y ≡ true → segment_of m y ≡ Some x → segment_of m z ≡ Some x → y ≢ z → mark_length m y ≡ mark_length m z → ⊥
 cut_apart m x y z faultless cut on on' other same =
-    let free = neither (shares_with_cut m y (cut_lengths m y) x) (shares_with_clamp m y (cut_lengths m y) x) (place_free m x y faultless cut on) in
+    let free = or_parts (shares_with_cut m y (cut_lengths m y) x) (shares_with_clamp m y (cut_lengths m y) x) (place_free m x y faultless cut on) in
     let own = cut_length m y faultless cut in
     elim (mark_listed m x z on') [
-      | inl cut' ↦ other_shares y z (cut_lengths m y) (cut_lengths m z) (mark_length m y) (mark_length m z) other same own (cut_length m z faultless (filter_passes (is_of m is_cut) (naming m property.cut_segment x) z cut'))
-          (none_passes (λ v. not (v == y) && share_one (cut_lengths m y) (cut_lengths m v)) (cuts_of m x) z free.0 cut')
-      | inr clamp' ↦ other_shares y z (cut_lengths m y) (clamp_lengths m z) (mark_length m y) (mark_length m z) other same own (clamp_length m z faultless (filter_passes (is_of m is_clamp) (naming m property.clamp_segment x) z clamp'))
-          (none_passes (λ v. not (v == y) && share_one (cut_lengths m y) (clamp_lengths m v)) (clamps_of m x) z free.1 clamp')
+      | inl cut' ↦ other_shares y z (cut_lengths m y) (cut_lengths m z) (mark_length m y) (mark_length m z) other same own (cut_length m z faultless (among_filter_passes (is_of m is_cut) (naming m property.cut_segment x) z cut'))
+          (none_among (λ v. not (v == y) && share_one (cut_lengths m y) (cut_lengths m v)) (cuts_of m x) z free.0 cut')
+      | inr clamp' ↦ other_shares y z (cut_lengths m y) (clamp_lengths m z) (mark_length m y) (mark_length m z) other same own (clamp_length m z faultless (among_filter_passes (is_of m is_clamp) (naming m property.clamp_segment x) z clamp'))
+          (none_among (λ v. not (v == y) && share_one (cut_lengths m y) (clamp_lengths m v)) (clamps_of m x) z free.1 clamp')
     ]

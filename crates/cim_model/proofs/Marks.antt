@@ -1,6 +1,7 @@
 -- Cuts and clamps of a model without fault, and the segments on which they stand.
 use Rattle.std.proofs.Common.{◌≡◌, ℕ, ◌⊎◌, inl, inr, List, Bool, true, false, Option, Some, None, refl, ap, sym, ◌∙◌}
 use Rattle.std.proofs.lemmas.Option.{same_Some}
+use Rattle.plain_laws.proofs.Members.{Among}
 use Rattle.cim_words.specs.Groups.{is_clamp, is_cut, is_segment}
 use Rattle.cim_words.specs.declared.class.Class.{Class}
 use Rattle.cim_words.specs.declared.class.Class.TheVariants as class
@@ -14,7 +15,6 @@ use Rattle.cim_model.specs.Network.{class_in, is_class, or_else, segment_of, val
 use Rattle.cim_model.specs.Profile.{IsFaultless, is_target, names_target, references}
 use Rattle.cim_model.proofs.Classes.{one_class}
 use Rattle.cim_model.proofs.FaultlessSubjects.{target_said}
-use Rattle.cim_model.proofs.ListMembers.{Among}
 use Rattle.cim_model.proofs.SaidLemmas.{IsStated, value_stated}
 
 -- the first value that is there is one of the two

@@ -1,7 +1,6 @@
 pub mod Held
 pub mod Lists
 pub mod Names
-pub mod Parts
 pub mod PlaceLemmas
 pub mod PlaceOrder
 pub mod RowValues

@@ -13,10 +13,6 @@ use Rattle.cim_model.specs.Stated.{or_zero}
 use Rattle.cim_profile.specs.declared.table.Row.{Row}
 use Rattle.cim_profile.proofs.Lists.{filter_map_present}
 
-pub map_itself : {X : Type 0} (xs : List X) → map (λ (x : X). x) xs ≡ xs
-map_itself [] = refl
-map_itself (x ∷ xs) = ap (λ (rest : List _). x ∷ rest) (map_itself xs)
-
 seen_cons : {V W : Type 0} (sees : V → W) (o : Option V) (values : List V) (others : List W) → map sees values ≡ others → map sees (cons_option o values) ≡ cons_option (option_map sees o) others
 seen_cons sees None values others h = h
 seen_cons sees (Some v) values others h = ap (λ (rest : List _). sees v ∷ rest) h

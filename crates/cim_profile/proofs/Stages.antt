@@ -1,5 +1,7 @@
 -- The least fault of a model, from those of the two stages of its rules.
 use Rattle.std.proofs.Common.{◌≡◌, ℕ, ◌<◌, ◌≤◌, List, [], ◌∷◌, Bool, true, false, ◌||◌, inl, Option, Some, None, refl, sym, subst, ◌∙◌, arith, ⊎_elim, zero, suc, slice_index_or}
+use Rattle.std.proofs.lemmas.Bool.{or_cases, or_left, or_right}
+use Rattle.std.proofs.Math.Bool.{or-false}
 use Rattle.cim_profile.specs.FirstBreak.{IsFirstBreak}
 use Rattle.cim_words.specs.declared.statement.Statement.{Statement}
 use Rattle.cim_model.specs.Model.{is_subject}
@@ -7,18 +9,13 @@ use Rattle.cim_model.specs.Profile.{breaks, breaks_type, breaks_once, breaks_own
 use Rattle.cim_profile.specs.Walk.{IsLeast, breaks_in}
 use Rattle.cim_profile.specs.declared.faults.Break.{Break}
 use Rattle.cim_profile.specs.declared.faults.Stage.TheVariants.{Repeats, Rest}
-use Rattle.cim_model.proofs.Runs.{either, or_left, or_right}
-
-or_false : (a : Bool) → a ≡ (a || false)
-or_false true = refl
-or_false false = refl
 
 -- ---- a place in a list, in its first three or after them
 
 in_parts : (a b : Bool) (rest : List Bool) (rule : ℕ) → slice_index_or (false ∷ a ∷ b ∷ rest) rule false ≡ (slice_index_or (false ∷ a ∷ b ∷ []) rule false || slice_index_or (false ∷ false ∷ false ∷ rest) rule false)
 in_parts a b rest zero = refl
-in_parts a b rest (suc zero) = or_false a
-in_parts a b rest (suc (suc zero)) = or_false b
+in_parts a b rest (suc zero) = sym (or-false a)
+in_parts a b rest (suc (suc zero)) = sym (or-false b)
 in_parts a b rest (suc (suc (suc rule))) = refl
 
 early : (a b : Bool) (rule : ℕ) → slice_index_or (false ∷ a ∷ b ∷ []) rule false ≡ true → rule < 3
@@ -49,14 +46,14 @@ first_of_repeats m b least = (
       (λ there.
       let before : b.rule < 3 = early _ _ b.rule least.1 in
       let from : 3 ≤ rule = late (late_verdicts m x) rule there in inl (omega arith))
-      (either _ _ (sym (by_stage m rule x) ∙ fault.broken)),
+      (or_cases _ _ (sym (by_stage m rule x) ∙ fault.broken)),
 )
 
 first_of_rest : (m : List Statement) (least : Option Break) → IsLeast (breaks_in Repeats m) (is_subject m) None → IsLeast (breaks_in Rest m) (is_subject m) least → IsFirstBreak m least
-first_of_rest m None none least = λ rule x fault. ⊎_elim (λ here. none rule x fault.subject here) (λ there. least rule x fault.subject there) (either _ _ (sym (by_stage m rule x) ∙ fault.broken))
+first_of_rest m None none least = λ rule x fault. ⊎_elim (λ here. none rule x fault.subject here) (λ there. least rule x fault.subject there) (or_cases _ _ (sym (by_stage m rule x) ∙ fault.broken))
 first_of_rest m (Some b) none least = (
   record { subject = least.0; broken = by_stage m b.rule b.subject.number ∙ or_right _ _ least.1 },
-  λ rule x fault. ⊎_elim (λ here. absurd (none rule x fault.subject here)) (λ there. least.2 rule x fault.subject there) (either _ _ (sym (by_stage m rule x) ∙ fault.broken)),
+  λ rule x fault. ⊎_elim (λ here. absurd (none rule x fault.subject here)) (λ there. least.2 rule x fault.subject there) (or_cases _ _ (sym (by_stage m rule x) ∙ fault.broken)),
 )
 
 -- the same for a list that is the model's

@@ -2,7 +2,7 @@
 use Rattle.std.proofs.Common.{◌≡◌, ℕ, List, [], ◌∷◌, map, Bool, true, false, cond, ◌||◌, ◌==◌, Option, Some, None, refl, ap, sym, ◌∙◌, arith}
 use Rattle.std.specs.Prelude.{if◌then◌else◌, option_map, unwrap_or, is_some}
 use Rattle.std.specs.List.{list_any}
-use Rattle.std.proofs.lemmas.Bool.Decides.{nat_tests}
+use Rattle.std.proofs.lemmas.Bool.{eqb-true}
 use Rattle.cim_words.specs.Groups.{is_cut, is_terminal}
 use Rattle.cim_words.specs.declared.class.Class.{Class}
 use Rattle.cim_words.specs.declared.statement.Statement.{Statement}
@@ -12,7 +12,6 @@ use Rattle.cim_model.specs.Network.{is_class}
 use Rattle.cim_model.specs.Phases.{no_phases}
 use Rattle.cim_model.specs.Profile.{IsFaultless}
 use Rattle.cim_model.specs.Values.{as_id, as_length, code_said, kind_said, length_said, number_of_id, number_said, truth_said}
-use Rattle.cim_model.proofs.Runs.{same_number}
 use Rattle.cim_records.specs.Found.{found, known_of}
 use Rattle.cim_records.specs.Subject.{records, subject_in}
 use Rattle.cim_records.specs.declared.subject.Subject.{Subject}
@@ -23,16 +22,13 @@ use Rattle.cim_records.proofs.Rules.{silent, value_is}
 -- ---- what is found under an identifier
 
 found_one : {V : Type 0} (f : ℕ → V) (x k : ℕ) (o : Option V) (r b : Bool) → (x == k) ≡ b → o ≡ (if r then Some (f x) else None) → cond b (Some (f k)) o ≡ (if b || r then Some (f x) else None)
-found_one f x k o r true same rest = ap (λ (n : ℕ). Some (f n)) (sym (same_number x k same))
+found_one f x k o r true same rest = ap (λ (n : ℕ). Some (f n)) (sym (eqb-true x k same))
 found_one f x k o r false same rest = rest
 
 -- among entries whose values are told by their keys
 pub found_map : {V : Type 0} (f : ℕ → V) (keys : List ℕ) (x : ℕ) → found (map (λ (k : ℕ). (as_id k, f k)) keys) x ≡ (if list_any (λ (k : ℕ). x == k) keys then Some (f x) else None)
 found_map f [] x = refl
 found_map f (k ∷ keys) x = found_one f x k _ (list_any (λ (n : ℕ). x == n) keys) (x == k) refl (found_map f keys x)
-
-pub turned : (m n : ℕ) → (m == n) ≡ (n == m)
-turned m n = grind (arith, nat_tests)
 
 pub found_is : (m : List Statement) (x : ℕ) → found (records m) x ≡ (if is_subject m x then Some (subject_in (about m x)) else None)
 found_is m x = found_map (λ (k : ℕ). subject_in (about m k)) (subjects m) x ∙ ap (λ (b : Bool). if b then Some (subject_in (about m x)) else None) (among_subjects x m)

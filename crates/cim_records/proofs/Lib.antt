@@ -1,4 +1,3 @@
-pub mod Lists
 pub mod Rules
 pub mod Known
 pub mod Reading

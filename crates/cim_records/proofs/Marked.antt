@@ -1,6 +1,7 @@
 -- The cuts and clamps among the entries of a table, segment by segment.
 use Rattle.std.proofs.Common.{◌≡◌, ℕ, List, [], ◌∷◌, ◌++◌, Bool, true, false, ◌==◌, Option, Some, None, refl, ap, sym, ◌∙◌}
 use Rattle.std.specs.Prelude.{if◌then◌else◌, option_map}
+use Rattle.plain_laws.proofs.Numbers.{equal_turned}
 use Rattle.cim_words.specs.Groups.{is_cut}
 use Rattle.cim_words.specs.declared.identifier.Id.{Id}
 use Rattle.cim_words.specs.declared.statement.Statement.{Statement}
@@ -12,7 +13,7 @@ use Rattle.cim_model.specs.Values.{as_id, is_some_id}
 use Rattle.segment_cuts.specs.declared.mark.Mark.{Mark}
 use Rattle.cim_records.specs.Subject.{mark_of, record_in, records}
 use Rattle.cim_records.specs.declared.subject.Subject.{Subject}
-use Rattle.cim_records.proofs.Known.{is_known, known_is, mark_length_known, segment_known, turned}
+use Rattle.cim_records.proofs.Known.{is_known, known_is, mark_length_known, segment_known}
 use Rattle.cim_records.proofs.Taken.{Entry, taken, taken_more, taken_past, taken_same}
 
 -- whether an entry stands on a segment, and its mark there
@@ -35,7 +36,7 @@ pub marked_more : (x : ℕ) (e : Entry) (rest left : List Entry) (done now all :
     → now ≡ (if x == s.number then done ++ next ∷ [] else done) → left ≡ e ∷ rest → done ++ marked x left ≡ all → now ++ marked x rest ≡ all
 marked_more x e rest left done now all s next some is added first so_far =
     ap (λ (marks : List Mark). marks ++ marked x rest) (added ∙ ap (λ (one : Mark). if x == s.number then done ++ one ∷ [] else done) is)
-    ∙ more_if x e rest left done all (x == s.number) (ap (is_some_id x) some ∙ turned s.number x) first so_far
+    ∙ more_if x e rest left done all (x == s.number) (ap (is_some_id x) some ∙ equal_turned s.number x) first so_far
 
 -- ---- in a model without fault
 

@@ -2,7 +2,9 @@
 use Rattle.std.proofs.Common.{◌≡◌, ℕ, ◌<◌, ◌≤◌, List, [], ◌∷◌, length, get_or, Bool, true, false, cond, ◌&&◌, Option, Some, None, refl, arith, ⊎_elim}
 use Rattle.std.specs.Prelude.{nat_lt}
 use Rattle.std.specs.List.{cons_option, filter_map}
-use Rattle.std.proofs.lemmas.Bool.Decides.{nat_tests}
+use Rattle.std.proofs.lemmas.Bool.{and_cases, ltb-false}
+use Rattle.plain_laws.proofs.Filters.{filter_none}
+use Rattle.plain_laws.proofs.Tests.{none_at}
 use Rattle.cim_words.specs.Groups.{counts_on}
 use Rattle.cim_words.specs.Properties as property
 use Rattle.cim_words.specs.declared.object.Object.{Object}
@@ -12,9 +14,7 @@ use Rattle.cim_model.specs.Network.{class_in, first, is_class, value_of}
 use Rattle.cim_model.specs.Profile.{IsFaultless, attributes, states_twice}
 use Rattle.cim_model.proofs.Classes.{one_class}
 use Rattle.cim_model.proofs.FaultlessSubjects.{keeps}
-use Rattle.cim_model.proofs.Runs.{filter_none}
 use Rattle.cim_records.specs.Subject.{read_of, value_in}
-use Rattle.cim_records.proofs.Lists.{and_false, none_at}
 
 -- ---- a subject of which nothing is said
 
@@ -32,12 +32,9 @@ one_value reads [] h = refl
 one_value reads (o ∷ []) h = said_one (reads o)
 one_value reads (o ∷ next ∷ more) h = absurd (omega arith)
 
-at_most_one : (n : ℕ) → nat_lt 1 n ≡ false → n ≤ 1
-at_most_one n h = grind (arith, nat_tests)
-
 value_at : {V : Type 0} (reads : Object → Option V) (objects : List Object) (b c : Bool) → b ≡ c → (nat_lt 1 (length objects) && b) ≡ false
     → cond b (first (filter_map reads objects)) None ≡ read_of reads (first (cond c objects []))
-value_at reads objects true true same h = one_value reads objects (at_most_one (length objects) (⊎_elim (λ no. no) (λ yes. absurd (cc)) (and_false (nat_lt 1 (length objects)) true h)))
+value_at reads objects true true same h = one_value reads objects (ltb-false 1 (length objects) (⊎_elim (λ no. no) (λ yes. absurd (cc)) (and_cases (nat_lt 1 (length objects)) true h)))
 value_at reads objects true false same h = absurd cc
 value_at reads objects false true same h = absurd cc
 value_at reads objects false false same h = refl

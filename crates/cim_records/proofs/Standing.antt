@@ -1,12 +1,12 @@
 -- The terminals at a node are those that stand there.
 use Rattle.std.proofs.Common.{◌≡◌, ℕ, List, Some, Contains}
 use Rattle.std.specs.Prelude.{◌↔◌}
+use Rattle.plain_laws.proofs.Members.{among_contained, contains_among}
 use Rattle.cim_words.specs.declared.statement.Statement.{Statement}
 use Rattle.cim_model.specs.Network.{node_of}
 use Rattle.cim_model.specs.Profile.{IsFaultless}
 use Rattle.cim_model.specs.Stated.{terminals_at}
 use Rattle.cim_model.proofs.FaultlessTerminals.{listed_standing, standing_listed}
-use Rattle.cim_model.proofs.ListMembers.{among_contained, contains_among}
 
 pub stands_at : (m : List Statement) → IsFaultless m → (n t : ℕ) → (node_of m t ≡ Some n) ↔ Contains (terminals_at m n) t
 stands_at m faultless n t = (

@@ -1,10 +1,12 @@
 -- Walking over the entries of a table, and taking something from each that passes a test.
-use Rattle.std.proofs.Common.{rules, ◌≡◌, ℕ, List, [], ◌∷◌, ◌++◌, map, Bool, true, false, ◌==◌, refl, ap, sym, ◌∙◌, append_assoc}
+use Rattle.std.proofs.Common.{◌≡◌, ℕ, List, [], ◌∷◌, ◌++◌, map, Bool, true, false, ◌==◌, refl, ap, sym, ◌∙◌, append_assoc}
 use Rattle.std.specs.Prelude.{if◌then◌else◌}
 use Rattle.std.specs.List.{filter, list_any}
+use Rattle.std.proofs.lemmas.Bool.{or_left, or_right}
+use Rattle.std.proofs.lemmas.List.{append-nil}
+use Rattle.plain_laws.proofs.Numbers.{equal_itself}
 use Rattle.cim_words.specs.declared.identifier.Id.{Id}
 use Rattle.cim_words.specs.declared.statement.Statement.{Statement}
-use Rattle.cim_model.proofs.Runs.{number_itself, or_left, or_right}
 use Rattle.cim_records.specs.Subject.{record_in}
 use Rattle.cim_records.specs.declared.subject.Subject.{Subject}
 
@@ -30,11 +32,8 @@ pub taken_past : {V : Type 0} (value : Entry → V) (test : Entry → Bool) (e :
 taken_past value test e rest left done all is next so_far =
     ap (λ (those : List _). done ++ those) (sym (ap (taken value test) next ∙ taken_one value test e rest false is)) ∙ so_far
 
-append_none : {V : Type 0} (done : List V) → done ++ [] ≡ done
-append_none done = search rules
-
 pub taken_all : {V : Type 0} (value : Entry → V) (test : Entry → Bool) (left : List Entry) (done all : List V) → left ≡ [] → done ++ taken value test left ≡ all → done ≡ all
-taken_all value test left done all none so_far = sym (append_none done) ∙ ap (λ (rest : List Entry). done ++ taken value test rest) (sym none) ∙ so_far
+taken_all value test left done all none so_far = sym (append-nil done) ∙ ap (λ (rest : List Entry). done ++ taken value test rest) (sym none) ∙ so_far
 
 -- ---- from the records of some subjects
 
@@ -49,5 +48,5 @@ pub taken_same : {V : Type 0} (value : Entry → V) (f : ℕ → V) (test : Entr
     → ((x : ℕ) → list_any (λ (k : ℕ). x == k) xs ≡ true → test (record_in m x) ≡ p x) → ((x : ℕ) → value (record_in m x) ≡ f x) → taken value test (map (record_in m) xs) ≡ map f (filter p xs)
 taken_same value f test p m [] tells gives = refl
 taken_same value f test p m (x ∷ xs) tells gives =
-    same_one value f x test (record_in m x) (map (record_in m) xs) (filter p xs) (test (record_in m x)) (p x) refl (tells x (or_left (x == x) _ (number_itself x))) (gives x)
+    same_one value f x test (record_in m x) (map (record_in m) xs) (filter p xs) (test (record_in m x)) (p x) refl (tells x (or_left (x == x) _ (equal_itself x))) (gives x)
     (taken_same value f test p m xs (λ y h. tells y (or_right (y == x) _ h)) gives)

@@ -18,7 +18,7 @@ use Rattle.cim_words.specs.declared.object.Object.TheVariants as object
 use Rattle.cim_words.specs.declared.prop.Prop.{Prop}
 use Rattle.cim_words.specs.declared.prop.Prop.TheVariants as prop
 use Rattle.cim_words.specs.declared.statement.Statement.{Statement}
-use Rattle.cim_words.proofs.Statements.{same_statement}
+use Rattle.cim_words.proofs.Statements.{same_id, same_statement}
 
 -- ---- the order of properties
 
@@ -116,9 +116,6 @@ statement_order_total = then_total (on_total subject_of nat_cmp_total) (then_tot
 
 -- ---- what ties is one
 
-same_id : (i j : Id) → nat_cmp i.number j.number ≡ Equal → i ≡ j
-same_id i j h = let again : ℕ → Id = λ n. record { number = n } in ap again (cmp_equal i.number j.number h)
-
 -- a known property stands in its row
 at_row : (k : KnownProp) → get_or KNOWN_PROPS (known_row k - 1) K1 ≡ k
 at_row K1 = refl
@@ -152,7 +149,7 @@ same_prop (prop.Other t) (prop.Known l) h = absurd cc
 same_prop (prop.Other t) (prop.Other u) h = ap prop.Other (exact_bytes t u h)
 
 same_object : (p q : Object) → object_order p q ≡ Equal → p ≡ q
-same_object (object.Id i) (object.Id j) h = ap object.Id (same_id i j h)
+same_object (object.Id i) (object.Id j) h = ap object.Id (same_id i j (cmp_equal i.number j.number h))
 same_object (object.Id i) (object.Name u) h = absurd cc
 same_object (object.Id i) (object.Text u) h = absurd cc
 same_object (object.Name t) (object.Id j) h = absurd cc
@@ -167,4 +164,4 @@ pub tied_statements : (s t : Statement) → statement_order s t ≡ Equal → s 
 tied_statements s t h =
     let first = then_equal (nat_cmp s.subject.number t.subject.number) (ordering_then (prop_order s.prop t.prop) (object_order s.object t.object)) h in
     let second = then_equal (prop_order s.prop t.prop) (object_order s.object t.object) first.1 in
-    same_statement s t (same_id s.subject t.subject first.0) (same_prop s.prop t.prop second.0) (same_object s.object t.object second.1)
+    same_statement s t (same_id s.subject t.subject (cmp_equal s.subject.number t.subject.number first.0)) (same_prop s.prop t.prop second.0) (same_object s.object t.object second.1)

@@ -4,6 +4,7 @@ use Rattle.std.proofs.Math.Bool.{Bool-set}
 use mathlib.Core.HLevel.{is_prop→PathP}
 use Rattle.std.specs.Str.{bytes_eq}
 use Rattle.std.proofs.lemmas.Slice.Eq.{bytes_eq-Decides}
+use Rattle.cim_words.specs.declared.identifier.Id.{Id}
 use Rattle.plain_laws.proofs.Options.{none_from_test}
 use Rattle.cim_words.specs.declared.known_prop.TheConstants.{KNOWN_PROPS}
 use Rattle.cim_words.specs.IdText.{iri_number, id_iri}
@@ -18,6 +19,10 @@ use Rattle.cim_words.specs.declared.prop.Prop.TheVariants as prop
 use Rattle.cim_words.specs.declared.object.Object.TheVariants as object
 use Rattle.cim_words.specs.declared.statement.Statement.{Statement}
 use Rattle.cim_words.proofs.IdTexts.{iri_number-id_iri}
+
+-- identifiers with one number are one
+pub same_id : (i j : Id) → i.number ≡ j.number → i ≡ j
+same_id i j is k = record { number = is k }
 
 -- statements with the same subject, property and object are one
 pub same_statement : (a b : Statement) → a.subject ≡ b.subject → a.prop ≡ b.prop → a.object ≡ b.object → a ≡ b

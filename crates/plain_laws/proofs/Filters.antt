@@ -1,7 +1,7 @@
 -- What a filter keeps, and lists made of the elements by functions that agree.
-use Rattle.std.proofs.Common.{◌≡◌, List, [], ◌∷◌, ◌++◌, map, Bool, true, false, ◌&&◌, cond, Option, inl, inr, refl, ap, ◌∙◌, rules}
-use Rattle.std.specs.List.{All, cons_option, filter, filter_map, list_any}
-use Rattle.std.proofs.lemmas.Bool.{or_parts}
+use Rattle.std.proofs.Common.{◌≡◌, List, [], ◌∷◌, ◌++◌, map, Bool, true, false, ◌&&◌, cond, Option, inl, inr, refl, ap, ◌∙◌, rules, None}
+use Rattle.std.specs.List.{All, cons_option, filter, filter_map, flat_map, list_all, list_any}
+use Rattle.std.proofs.lemmas.Bool.{and_parts, or_parts}
 use Rattle.std.proofs.lemmas.List.Elements.{filter-append, All-head, All-tail}
 use Rattle.plain_laws.proofs.Members.{Among}
 
@@ -40,6 +40,26 @@ both_kept p q x ys zs a false is other h = h
 pub filter_twice : {X : Type 0} (p q : X → Bool) (xs : List X) → filter p (filter q xs) ≡ filter (λ x. q x && p x) xs
 filter_twice p q [] = refl
 filter_twice p q (x ∷ xs) = both_kept p q x (filter q xs) (filter (λ y. q y && p y) xs) (p x) (q x) refl refl (filter_twice p q xs)
+
+picked_one : {X Y : Type 0} (h : X → Option Y) (x : X) (kept : List X) (b : Bool) → filter_map h (cond b (x ∷ kept) kept) ≡ cons_option (cond b (h x) None) (filter_map h kept)
+picked_one h x kept true = refl
+picked_one h x kept false = refl
+
+-- what is picked of those that pass a test, and of what is read
+pub filter_map_filter : {X Y : Type 0} (p : X → Bool) (h : X → Option Y) (xs : List X) → filter_map h (filter p xs) ≡ filter_map (λ x. cond (p x) (h x) None) xs
+filter_map_filter p h [] = refl
+filter_map_filter p h (x ∷ xs) = picked_one h x (filter p xs) (p x) ∙ ap (cons_option (cond (p x) (h x) None)) (filter_map_filter p h xs)
+
+pub filter_map_map : {X Y Z : Type 0} (h : Y → Option Z) (f : X → Y) (xs : List X) → filter_map h (map f xs) ≡ filter_map (λ x. h (f x)) xs
+filter_map_map h f [] = refl
+filter_map_map h f (x ∷ xs) = ap (cons_option (h (f x))) (filter_map_map h f xs)
+
+-- what is made of each element is the element alone, where they pass a test
+pub flat_map_itself : {X : Type 0} (p : X → Bool) (f : X → List X) → ((x : X) → p x ≡ true → f x ≡ x ∷ []) → (xs : List X) → list_all p xs ≡ true → flat_map f xs ≡ xs
+flat_map_itself p f itself [] all = refl
+flat_map_itself {X} p f itself (x ∷ xs) all =
+    let parts = and_parts (p x) (list_all p xs) all in
+    ap (λ (first : List X). first ++ flat_map f xs) (itself x parts.0) ∙ ap (λ (rest : List X). x ∷ rest) (flat_map_itself p f itself xs parts.1)
 
 -- ---- functions that agree on the elements
 

@@ -1,5 +1,5 @@
 -- Tests of numbers and what they say. More of these laws stand in the standard library, in Bool.
-use Rattle.std.proofs.Common.{◌≡◌, ℕ, ◌<◌, ◌≤◌, ◌==◌, ltb, leb, nat_eq, true, false, arith}
+use Rattle.std.proofs.Common.{◌≡◌, ℕ, ◌<◌, ◌≤◌, ◌==◌, ltb, leb, true, false, arith}
 use Rattle.std.specs.Ordering.{nat_cmp}
 use Rattle.std.specs.declared.cmp.Ordering.TheVariants.{Less, Equal, Greater}
 use Rattle.std.proofs.lemmas.Bool.Decides.{nat_tests}
@@ -7,10 +7,7 @@ use Rattle.std.proofs.lemmas.Bool.Decides.{nat_tests}
 pub equal_itself : (n : ℕ) → (n == n) ≡ true
 equal_itself n = grind (arith, nat_tests)
 
--- both tests of equality say the same, in either order
-pub equal_alike : (m n : ℕ) → (m == n) ≡ nat_eq m n
-equal_alike m n = grind (arith, nat_tests)
-
+-- in either order
 pub equal_turned : (m n : ℕ) → (m == n) ≡ (n == m)
 equal_turned m n = grind (arith, nat_tests)
 

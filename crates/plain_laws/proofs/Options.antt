@@ -2,7 +2,8 @@
 use Rattle.std.proofs.Common.{◌≡◌, ℕ, ◌+◌, inl, inr, List, [], ◌∷◌, map, length, Bool, true, false, not, cond, nat_lt, Option, Some, None, IsTrue, IfSome, is_none, find, position, if◌then◌else◌, refl, ap, ap₂, sym, ◌∙◌, subst}
 use Rattle.std.specs.List.{position_or_len}
 use Rattle.std.proofs.lemmas.Option.{same_Some}
-use Rattle.plain_laws.proofs.Members.{Among}
+use Rattle.std.specs.Prelude.{Contains}
+use Rattle.plain_laws.proofs.Members.{Among, contains_among}
 
 pub some_none : {X : Type 0} (x : X) → ◌≡◌ {A = Option X} (Some x) None → ⊥
 some_none x is = cc
@@ -31,6 +32,9 @@ found_one p y x ys false is rest h = let there = rest h in (inr there.0, there.1
 pub find_among : {X : Type 0} (p : X → Bool) (xs : List X) (x : X) → find p xs ≡ Some x → Among xs x × (p x ≡ true)
 find_among p [] x h = absurd cc
 find_among p (y ∷ ys) x h = found_one p y x ys (p y) refl (find_among p ys x) h
+
+pub find_contains : {X : Type 0} (p : X → Bool) (xs : List X) (x : X) → find p xs ≡ Some x → Contains xs x
+find_contains p xs x found = contains_among xs x (find_among p xs x found).0
 
 none_step : {X : Type 0} (y : X) (rest : Option X) (b : Bool) → (b ≡ false → rest ≡ None → ⊥) → cond b (Some y) rest ≡ None → ⊥
 none_step y rest true later none = cc

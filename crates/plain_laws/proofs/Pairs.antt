@@ -5,11 +5,12 @@ use Rattle.std.proofs.lemmas.Bool.{cases_lt}
 use Rattle.std.proofs.lemmas.Bool.Decides.{Decides-eqb}
 use Rattle.std.proofs.lemmas.Cmp.{nat_eq_equiv}
 use Rattle.std.proofs.lemmas.List.{get_or-append-add, get_or-map, get_or_append_left, get_or_default, length-map}
-use Rattle.std.proofs.lemmas.List.Kept.{AllPairs-filter}
+use Rattle.std.proofs.lemmas.List.Kept.{AllPairs-cons, AllPairs-filter}
 use Rattle.std.proofs.lemmas.Map.Keys.{IsDistinct-from_apart, apart_from_distinct}
 use Rattle.std.proofs.lemmas.Map.Made.{AllPairs-from_IsDistinct, IsDistinct-from_AllPairs, length-le_from_is_member}
-use Rattle.plain_laws.proofs.Each.{each_append, each_from_among}
-use Rattle.plain_laws.proofs.Members.{Among, among_index}
+use Rattle.std.proofs.lemmas.List.Elements.{All-append}
+use Rattle.plain_laws.proofs.Each.{all_from_among, each_append, each_from_among}
+use Rattle.plain_laws.proofs.Members.{Among, among_index, contains_among}
 use Rattle.plain_laws.proofs.Tests.{among_any, any_among}
 
 -- ---- of the first and the others, and of two lists end to end
@@ -32,6 +33,14 @@ pairs_across {X} R xs ys pairs x y here there =
 pub pairs_second : {X : Type 0} (R : X → X → Type 0) (xs ys : List X) → AllPairs R (xs ++ ys) → AllPairs R ys
 pairs_second R [] ys pairs = pairs
 pairs_second R (x ∷ xs) ys pairs = pairs_second R xs ys (pairs_rest R x (xs ++ ys) pairs)
+
+pub pairs_append : {X : Type 0} (R : X → X → Type 0) (xs ys : List X) → AllPairs R xs → AllPairs R ys → ((x y : X) → Among xs x → Among ys y → R x y) → AllPairs R (xs ++ ys)
+pairs_append R [] ys first second across = second
+pairs_append R (x ∷ xs) ys first second across =
+    AllPairs-cons R x (xs ++ ys) (All-append (R x) xs ys
+    (all_from_among (R x) xs (λ y there. pairs_first R x xs first y (contains_among xs y there)))
+    (all_from_among (R x) ys (λ y there. across x y (inl refl) there)))
+    (pairs_append R xs ys (pairs_rest R x xs first) second (λ a b here there. across a b (inr here) there))
 
 -- ---- of any two members, one way or the other
 

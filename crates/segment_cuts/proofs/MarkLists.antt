@@ -4,6 +4,7 @@ use Rattle.std.specs.List.{AllPairs}
 use Rattle.std.proofs.lemmas.Bool.{cases_lt}
 use Rattle.std.proofs.lemmas.Bool.Decides.{nat_tests}
 use Rattle.std.proofs.lemmas.List.Elements.{All-contains}
+use Rattle.cim_words.proofs.Statements.{same_id}
 use Rattle.plain_laws.proofs.Pairs.{pairs_any}
 use Rattle.plain_laws.proofs.Truth.{never_both}
 use Rattle.cim_words.specs.Limits.{most_length}
@@ -16,9 +17,6 @@ use Rattle.segment_cuts.specs.Sections.{AreMarks, IsOn, length_of, number, cut_n
 -- ---- two items of a list whose items stand in a relation, one way or the other
 
 -- ---- the length of a mark
-
-same_id : (i j : Id) → i.number ≡ j.number → i ≡ j
-same_id i j e = ap (λ (n : ℕ). let made : Id = record { number = n } in made) e
 
 passed_over : (m : Mark) (ms : List Mark) (id : Id) → (m.id ≡ id → ⊥) → (b : Bool) → (m.id.number == id.number) ≡ b → cond b m.length.mm (length_of ms id) ≡ length_of ms id
 passed_over m ms id other false is = refl

@@ -1,7 +1,7 @@
+use Rattle.plain_laws.proofs.Members.{among_contained, contains_among}
 use Rattle.cim_model.specs.Network.{terminals_by_side}
 use Rattle.cim_model.specs.Stated.{terminals_at, terminals_of}
 use Rattle.cim_model.proofs.FaultlessTerminals.{listed_owned, listed_standing, owned_listed, standing_listed}
-use Rattle.cim_model.proofs.ListMembers.{among_contained, contains_among}
 use Rattle.cim_model.proofs.TerminalSides.{owned_side, side_owned}
 use Rattle.cim_model.proofs.laws.terminals_belong_where_listed.Goals as goal
 
