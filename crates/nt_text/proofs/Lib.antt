@@ -8,12 +8,10 @@ pub mod HexDigits
 pub mod Insides
 pub mod LineReads
 pub mod LiteralEnds
-pub mod ObjectEnds
 pub mod OneDocument
 pub mod OneLine
 pub mod OneReading
 pub mod OneText
-pub mod QuoteCuts
 pub mod ReaderLemmas
 pub mod ReaderStates
 pub mod Readings
@@ -24,7 +22,6 @@ pub mod Spellings
 pub mod Tags
 pub mod TakenBytes
 pub mod TermForms
-pub mod Triples
 pub mod Widths
 pub mod WrittenLines
 pub mod WrittenParts

@@ -2,7 +2,7 @@
 use Rattle.std.proofs.Common.{◌≡◌, ℕ, ◌+◌, List, [], ◌∷◌, ◌++◌, length, refl, sym, ap, ◌∙◌, subst, inl, inr}
 use Rattle.cim_words.specs.declared.statement.Statement.{Statement}
 use Rattle.nt_text.specs.Document.{lines_of, AreRead, IsDocument, IsBadDocument}
-use Rattle.nt_text.specs.Reading.{Reading, nothing, holds, refused, IsReading}
+use Rattle.nt_text.specs.Reading.{nothing, holds, refused, IsReading}
 use Rattle.nt_text.specs.declared.refusal.LineRefusal.{LineRefusal}
 use Rattle.nt_text.proofs.OneReading.{one_reading}
 

@@ -1,7 +1,8 @@
 -- No line is written of two statements.
-use Rattle.std.proofs.Common.{◌≡◌, ℕ, zero, suc, ◌-◌, ◌<◌, ◌^◌, ◌/◌, ◌%◌, ◌==◌, true, false, List, [], ◌∷◌, ◌++◌, IsTrue, refl, sym, ap, ◌∙◌, arith, codes, nat_le, if◌then◌else◌}
+use Rattle.std.proofs.Common.{◌≡◌, ℕ, ◌<◌, ◌^◌, ◌/◌, ◌%◌, ◌==◌, true, false, List, [], ◌∷◌, ◌++◌, IsTrue, refl, sym, ap, ◌∙◌, arith, codes}
 use Rattle.std.proofs.lemmas.List.{append_cancel_right}
 use Rattle.std.specs.List.{flat_map}
+use Rattle.std.proofs.lemmas.Option.{same_Some}
 use Rattle.cim_words.specs.Held.{IsHeld, IsStatement}
 use Rattle.cim_words.specs.IdText.{id_iri, iri_number}
 use Rattle.cim_words.specs.Object.{object_of, is_proper_object}
@@ -19,34 +20,9 @@ use Rattle.nt_text.specs.declared.spelling.Coding.TheVariants.{Iri, Literal}
 use Rattle.nt_text.specs.Cut.{IsFreeOf}
 use Rattle.nt_text.proofs.Cuts.{one_cut}
 use Rattle.nt_text.proofs.Free.{free_iri, closing_out}
-use Rattle.nt_text.proofs.Readings.{line_is_triple, some_is}
+use Rattle.nt_text.proofs.HexDigits.{same_digit}
+use Rattle.nt_text.proofs.Readings.{inside_is, line_is_triple}
 use Rattle.nt_text.proofs.Spellings.{Form, itself, digits, line_end, back, quoted, spelling_form, spelling-not_empty}
-
--- the value of an upper-case digit
-abbrev unhex : ℕ → ℕ
-unhex digit = if nat_le digit 0x39 then digit - 0x30 else digit - 0x37
-
-unhex-hex_digit : (d : ℕ) → d < 16 → unhex (hex_digit d) ≡ d
-unhex-hex_digit zero small = refl
-unhex-hex_digit (suc zero) small = refl
-unhex-hex_digit (suc (suc zero)) small = refl
-unhex-hex_digit (suc (suc (suc zero))) small = refl
-unhex-hex_digit (suc (suc (suc (suc zero)))) small = refl
-unhex-hex_digit (suc (suc (suc (suc (suc zero))))) small = refl
-unhex-hex_digit (suc (suc (suc (suc (suc (suc zero)))))) small = refl
-unhex-hex_digit (suc (suc (suc (suc (suc (suc (suc zero))))))) small = refl
-unhex-hex_digit (suc (suc (suc (suc (suc (suc (suc (suc zero)))))))) small = refl
-unhex-hex_digit (suc (suc (suc (suc (suc (suc (suc (suc (suc zero))))))))) small = refl
-unhex-hex_digit (suc (suc (suc (suc (suc (suc (suc (suc (suc (suc zero)))))))))) small = refl
-unhex-hex_digit (suc (suc (suc (suc (suc (suc (suc (suc (suc (suc (suc zero))))))))))) small = refl
-unhex-hex_digit (suc (suc (suc (suc (suc (suc (suc (suc (suc (suc (suc (suc zero)))))))))))) small = refl
-unhex-hex_digit (suc (suc (suc (suc (suc (suc (suc (suc (suc (suc (suc (suc (suc zero))))))))))))) small = refl
-unhex-hex_digit (suc (suc (suc (suc (suc (suc (suc (suc (suc (suc (suc (suc (suc (suc zero)))))))))))))) small = refl
-unhex-hex_digit (suc (suc (suc (suc (suc (suc (suc (suc (suc (suc (suc (suc (suc (suc (suc zero))))))))))))))) small = refl
-unhex-hex_digit (suc (suc (suc (suc (suc (suc (suc (suc (suc (suc (suc (suc (suc (suc (suc (suc d)))))))))))))))) small = absurd (omega arith)
-
-same_digit : (c d : ℕ) → c < 16 → d < 16 → hex_digit c ≡ hex_digit d → c ≡ d
-same_digit c d small small' same = sym (unhex-hex_digit c small) ∙ ap unhex same ∙ unhex-hex_digit d small'
 
 same_byte : (b c : ℕ) → b < 256 → c < 256 → hex_digit (b / 16) ≡ hex_digit (c / 16) → hex_digit (b % 16) ≡ hex_digit (c % 16) → b ≡ c
 same_byte b c small small' high low =
@@ -153,11 +129,8 @@ one_front a b x y free free' same =
     let more : x ≡ y = cc in (cut.0, more)
 
 -- an object is written in one way
-one_iri : (a b : List ℕ) → 0x3C ∷ (a ++ 0x3E ∷ []) ≡ 0x3C ∷ (b ++ 0x3E ∷ []) → a ≡ b
-one_iri a b same = let tails : a ++ 0x3E ∷ [] ≡ b ++ 0x3E ∷ [] = cc in append_cancel_right a b (0x3E ∷ []) tails
-
 one_id : (m n : ℕ) → m < 2 ^ 128 → n < 2 ^ 128 → id_iri m ≡ id_iri n → m ≡ n
-one_id m n fits fits' same = some_is m n (sym (iri_number-id_iri m fits) ∙ ap iri_number same ∙ iri_number-id_iri n fits')
+one_id m n fits fits' same = same_Some m n (sym (iri_number-id_iri m fits) ∙ ap iri_number same ∙ iri_number-id_iri n fits')
 
 id_no_name : (n : ℕ) (text : List ℕ) → n < 2 ^ 128 → IsTrue (is_proper_object (object.Name text)) → id_iri n ≡ text → ⊥
 id_no_name n text fits proper same =
@@ -168,13 +141,13 @@ unspelled_id n text same = spelled_once Iri (id_iri n) text (iri_spelling-id_iri
 
 one_object : (o p : Object) → IsHeld o → IsHeld p → IsTrue (is_proper_object o) → IsTrue (is_proper_object p) → written_object o ≡ written_object p → o ≡ p
 one_object (object.Id id) (object.Id other) held held' proper proper' same =
-    ap (λ (n : ℕ). object.Id (record { number = n })) (one_id id.number other.number held held' (one_iri (id_iri id.number) (id_iri other.number) same))
+    ap (λ (n : ℕ). object.Id (record { number = n })) (one_id id.number other.number held held' (inside_is (id_iri id.number) (id_iri other.number) same))
 one_object (object.Id id) (object.Name text) held held' proper proper' same =
-    absurd (id_no_name id.number text held proper' (unspelled_id id.number text (one_iri (id_iri id.number) (flat_map iri_spelling text) same)))
+    absurd (id_no_name id.number text held proper' (unspelled_id id.number text (inside_is (id_iri id.number) (flat_map iri_spelling text) same)))
 one_object (object.Name text) (object.Id id) held held' proper proper' same =
-    absurd (id_no_name id.number text held' proper (unspelled_id id.number text (one_iri (id_iri id.number) (flat_map iri_spelling text) (sym same))))
+    absurd (id_no_name id.number text held' proper (unspelled_id id.number text (inside_is (id_iri id.number) (flat_map iri_spelling text) (sym same))))
 one_object (object.Name a) (object.Name b) held held' proper proper' same =
-    ap object.Name (spelled_once Iri a b (one_iri (flat_map iri_spelling a) (flat_map iri_spelling b) same))
+    ap object.Name (spelled_once Iri a b (inside_is (flat_map iri_spelling a) (flat_map iri_spelling b) same))
 one_object (object.Text a) (object.Text b) held held' proper proper' same =
     let tails : flat_map literal_spelling a ++ quote ∷ [] ≡ flat_map literal_spelling b ++ quote ∷ [] = cc in
     ap object.Text (spelled_once Literal a b (append_cancel_right (flat_map literal_spelling a) (flat_map literal_spelling b) (quote ∷ []) tails))

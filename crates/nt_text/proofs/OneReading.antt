@@ -1,6 +1,7 @@
 -- A line reads in one way.
 use Rattle.std.proofs.Common.{◌≡◌, ◌≢◌, ℕ, ◌<◌, ◌≤◌, List, ◌∷◌, ◌++◌, inl, inr, ⊎_elim, Option, IfSome, true, false, ◌==◌, Some, None, length, refl, sym, ap, ◌∙◌, arith, subst}
 use Rattle.std.proofs.lemmas.Bool.{cases_lt}
+use Rattle.std.proofs.lemmas.Option.{same_Some}
 use Rattle.cim_words.specs.IdText.{iri_number}
 use Rattle.cim_words.specs.Object.{object_of}
 use Rattle.cim_words.specs.Prop.{prop_of}
@@ -20,10 +21,8 @@ use Rattle.nt_text.specs.declared.refusal.LineRefusal.TheVariants as why
 use Rattle.nt_text.specs.declared.spelling.Coding.TheVariants.{Iri, Literal}
 use Rattle.nt_text.proofs.Cuts.{one_cut}
 use Rattle.nt_text.proofs.Insides.{iri_free, literal_closes}
-use Rattle.nt_text.proofs.LiteralEnds.{other_byte}
-use Rattle.nt_text.proofs.ObjectEnds.{iri_no_literal}
+use Rattle.nt_text.proofs.LiteralEnds.{other_byte, iri_no_literal}
 use Rattle.nt_text.proofs.OneText.{one_text}
-use Rattle.nt_text.proofs.Readings.{some_is}
 use Rattle.nt_text.proofs.Runs.{empty_line_begins, blank_node_begins}
 use Rattle.nt_text.proofs.TermForms.{iri_begins, literal_begins, one_literal_cut}
 
@@ -99,7 +98,7 @@ blank_no_triple line s p o (inr node) triple =
 says_one : (line : List ℕ) (s t : Statement) → Says line s → Says line t → s ≡ t
 says_one line s t a b =
     let same = one_triple line a.subject a.property b.subject b.property s.object t.object a.triple b.triple in
-    let numbers = some_is s.subject.number t.subject.number (sym a.spells_subject ∙ ap iri_number same.0 ∙ b.spells_subject) in
+    let numbers = same_Some s.subject.number t.subject.number (sym a.spells_subject ∙ ap iri_number same.0 ∙ b.spells_subject) in
     same_statement s t (ap (λ (n : ℕ). record { number = n }) numbers) (a.names_property ∙ ap prop_of same.1 ∙ sym b.names_property) same.2
 
 says_some : (line : List ℕ) (s : Statement) → Says line s → SaysOfNone line → ⊥

@@ -33,6 +33,3 @@ line_is_triple s =
 -- what stands between the marks of an IRI
 pub inside_is : (a b : List ℕ) → 60 ∷ (a ++ 62 ∷ []) ≡ 60 ∷ (b ++ 62 ∷ []) → a ≡ b
 inside_is a b same = append_cancel_right a b (62 ∷ []) (let tails : a ++ 62 ∷ [] ≡ b ++ 62 ∷ [] = cc in tails)
-
-pub some_is : {X : Type 0} (x y : X) → Some x ≡ Some y → x ≡ y
-some_is x y same = cc

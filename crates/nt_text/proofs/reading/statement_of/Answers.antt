@@ -1,7 +1,8 @@
 use Rattle.std.proofs.Common.{◌∙◌, sym, ap, Some}
+use Rattle.std.proofs.lemmas.Option.{same_Some}
 use Rattle.cim_words.proofs.Statements.{same_statement}
 use Rattle.nt_text.proofs.Free.{free_iri, closing_out}
-use Rattle.nt_text.proofs.Readings.{line_is_triple, some_is}
+use Rattle.nt_text.proofs.Readings.{line_is_triple}
 use Rattle.nt_text.specs.Spelling.{closing}
 use Rattle.nt_text.proofs.reading.statement_of.Goals as goal
 
@@ -31,4 +32,4 @@ returns-clause-only c s held is =
     let subjects = sym c.in-Some-2.is ∙ c.in_ok-subject.ensures s.subject held.subject parts.0 in
     let properties = sym c.in-Some-3.is ∙ c.in_ok-prop.ensures.only s.prop held.prop s.proper_prop parts.1 in
     let objects = sym c.in-Some-4.is ∙ c.in_ok-object.ensures.only s.object held.object s.proper_object parts.2 in
-    ap Some (same_statement _ s (some_is _ _ subjects) (some_is _ _ properties) (some_is _ _ objects))
+    ap Some (same_statement _ s (same_Some _ _ subjects) (same_Some _ _ properties) (same_Some _ _ objects))
