@@ -64,5 +64,5 @@ one_class_at test m x true is faultless = a_class test m x faultless is
 one_class_at test m x false is faultless = no_class test m x is
 
 -- a subject of a model without fault is of a class that passes a test exactly where its class does
-pub one_class : (test : Class → Bool) (m : List Statement) (x : ℕ) → IsFaultless m → is_of m test x ≡ is_class test (class_in m x)
-one_class test m x faultless = one_class_at test m x (is_subject m x) refl faultless
+pub is_of_by_class : (test : Class → Bool) (m : List Statement) (x : ℕ) → IsFaultless m → is_of m test x ≡ is_class test (class_in m x)
+is_of_by_class test m x faultless = one_class_at test m x (is_subject m x) refl faultless

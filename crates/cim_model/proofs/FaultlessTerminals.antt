@@ -31,11 +31,11 @@ listed_stated m k y t faultless once listed =
     value_is id_said m t k names.0 y counted (said_once m t k names.0 faultless once counted names.1) names.2
 
 -- the terminals of equipment are those that it owns
-pub owned_listed : (m : List Statement) (y t : ℕ) → owner_of m t ≡ Some y → Among (terminals_of m y) t
-owned_listed m y t owned = stated_listed m property.conducting_equipment y t owned
+pub owned_is_listed : (m : List Statement) (y t : ℕ) → owner_of m t ≡ Some y → Among (terminals_of m y) t
+owned_is_listed m y t owned = stated_listed m property.conducting_equipment y t owned
 
-pub listed_owned : (m : List Statement) (y t : ℕ) → IsFaultless m → Among (terminals_of m y) t → owner_of m t ≡ Some y
-listed_owned m y t faultless listed = listed_stated m property.conducting_equipment y t faultless (inl refl) listed
+pub listed_is_owned : (m : List Statement) (y t : ℕ) → IsFaultless m → Among (terminals_of m y) t → owner_of m t ≡ Some y
+listed_is_owned m y t faultless listed = listed_stated m property.conducting_equipment y t faultless (inl refl) listed
 
 -- what owns a terminal has a type, and so it is equipment and of one class
 typed : (some : Bool) (part : Bool) → (not some && not part) ≡ true → some ≡ false
@@ -56,10 +56,10 @@ owner_subject m y t faultless owned =
 
 pub owner_equipment : (m : List Statement) (y t : ℕ) → IsFaultless m → owner_of m t ≡ Some y → is_equipment m y ≡ true
 owner_equipment m y t faultless owned =
-    and_from (is_subject m y) _ (owner_subject m y t faultless owned) (or_right (is_of m is_equipment_class y) _ (ap not (among_some (terminals_of m y) t (owned_listed m y t owned))))
+    and_from (is_subject m y) _ (owner_subject m y t faultless owned) (or_right (is_of m is_equipment_class y) _ (ap not (among_some (terminals_of m y) t (owned_is_listed m y t owned))))
 
 pub owner_class : (m : List Statement) (y t : ℕ) → IsFaultless m → owner_of m t ≡ Some y → (c : Class) × (types m y ≡ c ∷ [])
-owner_class m y t faultless owned = one_class m y t faultless (owner_subject m y t faultless owned) (owned_listed m y t owned)
+owner_class m y t faultless owned = one_class m y t faultless (owner_subject m y t faultless owned) (owned_is_listed m y t owned)
 
 -- each terminal has an owner, and nothing else has one
 pub terminal_owned : (m : List Statement) (t : ℕ) → IsFaultless m → is_of m is_terminal t ≡ true → (y : ℕ) × (owner_of m t ≡ Some y)
@@ -87,8 +87,8 @@ node_is m t n faultless at =
     target_node m stated.object n (target_said m t property.connectivity_node stated.object faultless (inr (inl refl)) stated.counts stated.said) stated.read
 
 -- the terminals at a node are those that stand there
-pub standing_listed : (m : List Statement) (n t : ℕ) → node_of m t ≡ Some n → Among (terminals_at m n) t
-standing_listed m n t at = stated_listed m property.connectivity_node n t at
+pub standing_is_listed : (m : List Statement) (n t : ℕ) → node_of m t ≡ Some n → Among (terminals_at m n) t
+standing_is_listed m n t at = stated_listed m property.connectivity_node n t at
 
-pub listed_standing : (m : List Statement) (n t : ℕ) → IsFaultless m → Among (terminals_at m n) t → node_of m t ≡ Some n
-listed_standing m n t faultless listed = listed_stated m property.connectivity_node n t faultless (inr (inl refl)) listed
+pub listed_is_standing : (m : List Statement) (n t : ℕ) → IsFaultless m → Among (terminals_at m n) t → node_of m t ≡ Some n
+listed_is_standing m n t faultless listed = listed_stated m property.connectivity_node n t faultless (inr (inl refl)) listed

@@ -20,11 +20,11 @@ use Rattle.cim_model.specs.Marks.{is_item_on, is_on, item_mark, item_marks, mark
 use Rattle.cim_model.specs.Model.{is_of, is_subject, subjects, types}
 use Rattle.cim_model.specs.Network.{is_equipment, segment_of}
 use Rattle.cim_model.specs.Values.{number_of_id}
-use Rattle.cim_model.proofs.MarkLists.{are_marks, is_this}
+use Rattle.cim_model.proofs.MarkLists.{are_marks, some_number_is}
 use Rattle.cim_model.proofs.MarkPlaces.{mark_within}
 use Rattle.cim_model.proofs.Marks.{on_segment, segment_on_none}
-use Rattle.cim_model.proofs.OverlayItems.{IsLive, found_item, item_found, item_stands, no_item, says_item, says_other}
-use Rattle.cim_model.proofs.SaidLemmas.{class_subject}
+use Rattle.cim_model.proofs.OverlayItems.{IsLive, found_item_is_listed, item_found, item_stands, no_item, says_item, says_other}
+use Rattle.cim_model.proofs.SaidLemmas.{of_class_is_subject}
 use Rattle.cim_model.proofs.SubjectLists.{listed_subject}
 use Rattle.room_words.specs.Items.{item_id, item_length, item_number}
 use Rattle.room_words.specs.Overlay.{item_of}
@@ -38,13 +38,13 @@ use Rattle.segment_cuts.specs.declared.mark.Mark.{Mark}
 
 segment_conducts : (m : List Statement) (o : Overlay) (x : ℕ) → IsLive m o → is_of m is_segment x ≡ true → conduction m o x ≡ PassesAlong
 segment_conducts m o x live segment =
-    says_other o x item_conduction (class_conduction m x) (no_item m o x live (class_subject m is_segment x segment)) ∙ rw segment refl
+    says_other o x item_conduction (class_conduction m x) (no_item m o x live (of_class_is_subject m is_segment x segment)) ∙ rw segment refl
 
 stands_if : (m : List Statement) (o : Overlay) (x y : ℕ) (found : Option TempItem) → IsLive m o → item_of o y ≡ found → unwrap_or (option_map item_segment_number found) (segment_of m y) ≡ Some x
     → is_of m is_segment x ≡ true
 stands_if m o x y None live is on = (on_segment m x y live.faultless on).0
 stands_if m o x y (Some one) live is on =
-    if_some (λ (x : ℕ). is_of m is_segment x ≡ true) (item_segment_number one) x on (item_stands m o one live (found_item o y one is).0).segment
+    if_some (λ (x : ℕ). is_of m is_segment x ≡ true) (item_segment_number one) x on (item_stands m o one live (found_item_is_listed o y one is).0).segment
 
 pub on_line : (m : List Statement) (o : Overlay) (x y : ℕ) → IsLive m o → stands_on m o y ≡ Some x → conduction m o x ≡ PassesAlong
 on_line m o x y live on = segment_conducts m o x live (stands_if m o x y (item_of o y) live refl on)
@@ -69,7 +69,7 @@ segment_equipment _ segment = absurd cc
 segment_is : (m : List Statement) (x : ℕ) → is_of m is_segment x ≡ true → is_equipment m x ≡ true
 segment_is m x segment =
     let c = any_among is_segment (types m x) segment in
-    and_from (is_subject m x) _ (class_subject m is_segment x segment)
+    and_from (is_subject m x) _ (of_class_is_subject m is_segment x segment)
     (or_left (is_of m is_equipment_class x) _ (among_any is_equipment_class (types m x) c.0 c.1 (segment_equipment c.0 c.2)))
 
 line_if : (m : List Statement) (o : Overlay) (x : ℕ) (found : Option TempItem) → IsLive m o → item_of o x ≡ found → unwrap_or (option_map item_conduction found) (class_conduction m x) ≡ PassesAlong
@@ -104,7 +104,7 @@ model_mark m x found there =
       subject = y.0;
       is = y.2;
       listed = listed_subject m y.0 (contains_among (subjects m) y.0 (filter_among (is_on m x) (subjects m) y.0 y.1));
-      on = is_this x (segment_of m y.0) (among_filter_passes (is_on m x) (subjects m) y.0 y.1);
+      on = some_number_is x (segment_of m y.0) (among_filter_passes (is_on m x) (subjects m) y.0 y.1);
     }
 
 mark_of_item : (o : Overlay) (x : ℕ) (found : Mark) → Among (item_marks o x) found → IsItemMark o x found
@@ -114,7 +114,7 @@ mark_of_item o x found there =
       one = one.0;
       is = one.2;
       listed = filter_among (is_item_on x) o.items one.0 one.1;
-      on = is_this x (item_segment_number one.0) (among_filter_passes (is_item_on x) o.items one.0 one.1);
+      on = some_number_is x (item_segment_number one.0) (among_filter_passes (is_item_on x) o.items one.0 one.1);
     }
 
 pub mark_is : (m : List Statement) (o : Overlay) (x : ℕ) (found : Mark) → Among (marks_on m o x) found → IsModelMark m x found ⊎ IsItemMark o x found
@@ -124,11 +124,11 @@ mark_is m o x found there = elim (among_either (marks_of m x) (item_marks o x) f
 ]
 
 -- the mark of an item has its identifier
-pub marked_id : (one : TempItem) (found : Mark) → item_mark one ≡ Some found → item_id one ≡ found.id
-marked_id (item.Cut id segment length is_open) found is = ap (λ (m : Mark). m.id) (same_Some _ found is)
-marked_id (item.Clamp id segment length) found is = ap (λ (m : Mark). m.id) (same_Some _ found is)
-marked_id (item.Jumper id first second phases is_open) found is = absurd cc
-marked_id (item.Ground id at phases) found is = absurd cc
+pub mark_has_item_id : (one : TempItem) (found : Mark) → item_mark one ≡ Some found → item_id one ≡ found.id
+mark_has_item_id (item.Cut id segment length is_open) found is = ap (λ (m : Mark). m.id) (same_Some _ found is)
+mark_has_item_id (item.Clamp id segment length) found is = ap (λ (m : Mark). m.id) (same_Some _ found is)
+mark_has_item_id (item.Jumper id first second phases is_open) found is = absurd cc
+mark_has_item_id (item.Ground id at phases) found is = absurd cc
 
 marked_length : (one : TempItem) (found : Mark) → item_mark one ≡ Some found → item_length one ≡ found.length.mm
 marked_length (item.Cut id segment length is_open) found is = ap (λ (m : Mark). m.length.mm) (same_Some _ found is)
@@ -143,7 +143,7 @@ mark_on m o x found live (inl of_model) =
     subst (λ (one : Mark). stands_on m o one.id.number ≡ Some x) of_model.is
     (says_other o of_model.subject item_segment_number (segment_of m of_model.subject) (no_item m o of_model.subject live of_model.listed) ∙ of_model.on)
 mark_on m o x found live (inr of_item) =
-    subst (λ (id : Id). stands_on m o id.number ≡ Some x) (marked_id of_item.one found of_item.is)
+    subst (λ (id : Id). stands_on m o id.number ≡ Some x) (mark_has_item_id of_item.one found of_item.is)
     (says_item o (item_number of_item.one) of_item.one item_segment_number (segment_of m (item_number of_item.one)) (item_found m o of_item.one live of_item.listed) ∙ of_item.on)
 
 pub mark_stands : (m : List Statement) (o : Overlay) (x : ℕ) (id : Id) (divides : Bool) → IsLive m o → HasMark (marks_on m o x) id divides → stands_on m o id.number ≡ Some x
@@ -172,7 +172,7 @@ head_mark x one items None is apart rest = rest
 head_mark x one items (Some found) is apart rest =
     AllPairs-cons OfOther found (marks_of_items x items) (all_from_among (OfOther found) (marks_of_items x items) (λ other there same.
     let from = filter_map_among item_mark (filter (is_item_on x) items) other there in
-    apart from.0 (filter_among (is_item_on x) items from.0 from.1) (ap number_of_id (marked_id one found is ∙ same ∙ sym (marked_id from.0 other from.2))))) rest
+    apart from.0 (filter_among (is_item_on x) items from.0 from.1) (ap number_of_id (mark_has_item_id one found is ∙ same ∙ sym (mark_has_item_id from.0 other from.2))))) rest
 
 next_mark : (x : ℕ) (one : TempItem) (items : List TempItem) (b : Bool) → ((other : TempItem) → Among items other → item_number one ≡ item_number other → ⊥)
     → AllPairs OfOther (marks_of_items x items) → AllPairs OfOther (filter_map item_mark (cond b (one ∷ filter (is_item_on x) items) (filter (is_item_on x) items)))
@@ -187,14 +187,14 @@ items_differ x (one ∷ items) distinct = next_mark x one items (is_item_on x on
 
 live_apart : (m : List Statement) (o : Overlay) (x : ℕ) (a b : Mark) → IsLive m o → IsModelMark m x a → IsItemMark o x b → OfOther a b
 live_apart m o x a b live of_model of_item same =
-    let number : of_model.subject ≡ item_number of_item.one = ap (λ (one : Mark). one.id.number) of_model.is ∙ ap number_of_id (same ∙ sym (marked_id of_item.one b of_item.is)) in
+    let number : of_model.subject ≡ item_number of_item.one = ap (λ (one : Mark). one.id.number) of_model.is ∙ ap number_of_id (same ∙ sym (mark_has_item_id of_item.one b of_item.is)) in
     let fresh : is_subject m of_model.subject ≡ false = ap (is_subject m) number ∙ (item_stands m o of_item.one live of_item.listed).identifier in
     let both : true ≡ false = sym of_model.listed ∙ fresh in
     cc
 
 -- the first item that stands on a segment, if one does
 some_item : (x : ℕ) (items : List TempItem) → (filter_map item_mark (filter (is_item_on x) items) ≡ []) ⊎ ((one : TempItem) × Among items one × (item_segment_number one ≡ Some x))
-some_item x items = some_of (filter (is_item_on x) items) (λ one there. (filter_among (is_item_on x) items one there, is_this x (item_segment_number one) (among_filter_passes (is_item_on x) items one there)))
+some_item x items = some_of (filter (is_item_on x) items) (λ one there. (filter_among (is_item_on x) items one there, some_number_is x (item_segment_number one) (among_filter_passes (is_item_on x) items one there)))
   where
     some_of : (kept : List TempItem) → ((one : TempItem) → Among kept one → Among items one × (item_segment_number one ≡ Some x))
         → (filter_map item_mark kept ≡ []) ⊎ ((one : TempItem) × Among items one × (item_segment_number one ≡ Some x))

@@ -11,10 +11,10 @@ use Rattle.cim_model.specs.Live.{at_node, is_place, is_term, owned, place_of, re
 use Rattle.cim_model.specs.Network.{node_of, owner_of, terminals_by_side}
 use Rattle.cim_model.specs.Stated.{terminals_at}
 use Rattle.cim_model.specs.Values.{as_id}
-use Rattle.cim_model.proofs.FaultlessTerminals.{listed_standing, node_is, standing_listed}
-use Rattle.cim_model.proofs.ItemSides.{IsSideOf, item_term_side, no_node_made, place_stated, standing_at}
+use Rattle.cim_model.proofs.FaultlessTerminals.{listed_is_standing, node_is, standing_is_listed}
+use Rattle.cim_model.proofs.ItemSides.{IsSideOf, item_term_side, no_node_made, standing_states_place, standing_at}
 use Rattle.cim_model.proofs.LiveTerms.{item_listed, listed_term, real_listed, term_listed}
-use Rattle.cim_model.proofs.OverlayItems.{IsLive, found_item, item_found, item_stands}
+use Rattle.cim_model.proofs.OverlayItems.{IsLive, found_item_is_listed, item_found, item_stands}
 use Rattle.cim_model.proofs.TerminalSides.{side_owned}
 use Rattle.room_words.specs.Items.{item_place, item_terms, item_terms_at, makes, standing, term_in}
 use Rattle.room_words.specs.Overlay.{item_of}
@@ -51,7 +51,7 @@ real_at m o n u t (Some y) live at owned is =
 real_placed : (m : List Statement) (o : Overlay) (place : Anchor) (t : Term) → IsLive m o → Among (real_terms_at m place) t → place_of m o t ≡ Some place
 real_placed m o (anchor.Node n) t live there =
     let u = filter_map_among (owned m) (terminals_at m n.number) t there in
-    real_at m o n.number u.0 t (owner_of m u.0) live (listed_standing m n.number u.0 live.faultless u.1) refl u.2
+    real_at m o n.number u.0 t (owner_of m u.0) live (listed_is_standing m n.number u.0 live.faultless u.1) refl u.2
 real_placed m o (anchor.Side id number) t live there = absurd there
 
 side_stated : (m : List Statement) (o : Overlay) (one : TempItem) (t : Term) (place : Anchor) → item_of o t.owner.number ≡ Some one → IsSideOf one t → item_place one t ≡ Some place
@@ -67,7 +67,7 @@ item_placed m o place one t live there at =
     let own : Among (item_terms one) t = subst (Among (item_terms one)) s.2 (among_map term_in (standing one) s.0 listed) in
     let side = item_term_side one t own in
     let is : item_of o t.owner.number ≡ Some one = ap (λ (id : _). item_of o id.number) side.owner ∙ item_found m o one live there in
-    let at_place : item_place one t ≡ Some place = subst (λ (t : Term). item_place one t ≡ Some place) s.2 (place_stated one s.0 listed ∙ ap (λ (p : Anchor). Some p) here) in
+    let at_place : item_place one t ≡ Some place = subst (λ (t : Term). item_place one t ≡ Some place) s.2 (standing_states_place one s.0 listed ∙ ap (λ (p : Anchor). Some p) here) in
     placed m o t (listed_term m o t.owner.number t live.terms (item_listed m o t.owner.number one t is own)) ∙ side_stated m o one t place is side at_place
 
 pub listed_placed : (m : List Statement) (o : Overlay) (place : Anchor) (t : Term) → IsLive m o → Among (terms_at m o place) t → place_of m o t ≡ Some place
@@ -101,7 +101,7 @@ side_at m o t number place live is =
     let one = item_found_at (item_of o t.owner.number) t place is in
     let s = place_found one.0 t place (find (λ (s : Anchor × Term). same_term s.1 t) (standing one.0)) one.2 in
     let there = find_among (λ (s : Anchor × Term). same_term s.1 t) (standing one.0) s.0 s.1 in
-    record { one = one.0; listed = (found_item o t.owner.number one.0 one.1).0; side = s.0; stands = there.0; at = s.2; term = (live.terms s.0.1 t).0 there.1 }
+    record { one = one.0; listed = (found_item_is_listed o t.owner.number one.0 one.1).0; side = s.0; stands = there.0; at = s.2; term = (live.terms s.0.1 t).0 there.1 }
 
 side_listed : (m : List Statement) (o : Overlay) (place : Anchor) (t : Term) → IsLive m o → IsSideAt o t place → Among (terms_at m o place) t
 side_listed m o place t live side =
@@ -137,7 +137,7 @@ placed_key : (m : List Statement) (o : Overlay) (place : Anchor) (t : Term) (k :
 placed_key m o place t (key.Real u) live is term at =
     let n = node_stated (node_of m u.number) place at in
     let owned_so : owned m u.number ≡ Some t = ap (option_map (λ (y : ℕ). real y u.number)) (real_owned m o u.number t live is term) ∙ ap (λ (t : Term). Some t) (real_term_is t u.number is) in
-    let at_own : Among (real_terms_at m (at_node n.0)) t = among_filter_map (owned m) (terminals_at m n.0) u.number t (standing_listed m n.0 u.number n.1) owned_so in
+    let at_own : Among (real_terms_at m (at_node n.0)) t = among_filter_map (owned m) (terminals_at m n.0) u.number t (standing_is_listed m n.0 u.number n.1) owned_so in
     among_left (real_terms_at m place) (flat_map (item_terms_at place) o.items) t (subst (λ (p : Anchor). Among (real_terms_at m p) t) n.2 at_own)
 placed_key m o place t (key.Side number) live is term at = side_listed m o place t live (side_at m o t number place live at)
 

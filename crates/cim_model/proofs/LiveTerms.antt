@@ -7,7 +7,7 @@ use Rattle.cim_model.specs.Live.{is_live, is_term, real, terms_of}
 use Rattle.cim_model.specs.Network.{is_equipment, owner_of, terminals_by_side}
 use Rattle.cim_model.proofs.FaultlessTerminals.{owner_equipment, owner_subject}
 use Rattle.cim_model.proofs.ItemSides.{item_term_side}
-use Rattle.cim_model.proofs.OverlayItems.{IsLive, found_item, no_item, says_item, says_other}
+use Rattle.cim_model.proofs.OverlayItems.{IsLive, found_item_is_listed, no_item, says_item, says_other}
 use Rattle.cim_model.proofs.TerminalSides.{owned_side, side_owned}
 use Rattle.room_words.specs.Items.{item_number, item_terms}
 use Rattle.room_words.specs.Overlay.{item_of}
@@ -24,7 +24,7 @@ listed_if m x t None named there = let u = map_among (real x) (terminals_by_side
 listed_if m x t (Some one) named there = ap (λ (id : _). id.number) (item_term_side one t there).owner ∙ named one refl
 
 pub listed_owner : (m : List Statement) (o : Overlay) (x : ℕ) (t : Term) → Among (terms_of m o x) t → t.owner.number ≡ x
-listed_owner m o x t there = listed_if m x t (item_of o x) (λ one is. (found_item o x one is).1) there
+listed_owner m o x t there = listed_if m x t (item_of o x) (λ one is. (found_item_is_listed o x one is).1) there
 
 -- the terminals of a network are those that their owners list
 pub term_listed : (m : List Statement) (o : Overlay) (t : Term) → ((t u : Term) → IsTrue (same_term t u) ↔ (t ≡ u)) → is_term m o t ≡ true → Among (terms_of m o t.owner.number) t

@@ -18,10 +18,10 @@ use Rattle.cim_model.specs.Network.{is_some_number, mark_length, segment_of}
 use Rattle.cim_model.specs.Profile.{IsFaultless, breaks_crowd, has_many_marks, has_many_terminals}
 use Rattle.cim_model.specs.Stated.{clamps_of, cuts_of}
 use Rattle.cim_model.specs.Values.{as_id, mm_of, number_of_id}
-use Rattle.cim_model.proofs.FaultlessSubjects.{keeps}
+use Rattle.cim_model.proofs.FaultlessSubjects.{breaks_no_rule}
 use Rattle.cim_model.proofs.MarkPlaces.{cut_apart, mark_listed, mark_within}
 use Rattle.cim_model.proofs.Marks.{on_segment}
-use Rattle.cim_model.proofs.SaidLemmas.{class_subject}
+use Rattle.cim_model.proofs.SaidLemmas.{of_class_is_subject}
 use Rattle.cim_model.proofs.SubjectLists.{distinct_subjects}
 
 -- the subjects that stand on a segment, which differ
@@ -32,19 +32,19 @@ differ : (m : List Statement) (x : ℕ) → AllPairs (λ y z. y ≢ z) (standing
 unfolding standing
 differ m x = different_filter (is_on m x) (subjects m) (distinct_subjects m)
 
-pub is_this : (x : ℕ) (o : Option ℕ) → is_some_number x o ≡ true → o ≡ Some x
-is_this x None is = absurd cc
-is_this x (Some y) is = ap (λ (n : ℕ). Some n) (eqb-true y x is)
+pub some_number_is : (x : ℕ) (o : Option ℕ) → is_some_number x o ≡ true → o ≡ Some x
+some_number_is x None is = absurd cc
+some_number_is x (Some y) is = ap (λ (n : ℕ). Some n) (eqb-true y x is)
 
 stands : (m : List Statement) (x y : ℕ) → Among (standing m x) y → segment_of m y ≡ Some x
 unfolding standing
-stands m x y there = is_this x (segment_of m y) (among_filter_passes (is_on m x) (subjects m) y there)
+stands m x y there = some_number_is x (segment_of m y) (among_filter_passes (is_on m x) (subjects m) y there)
 
 -- ---- they are few
 
 few_listed : (m : List Statement) (x : ℕ) → IsFaultless m → is_of m is_segment x ≡ true → length (cuts_of m x ++ clamps_of m x) ≤ most_marks
 few_listed m x faultless segment =
-    let kept : breaks_crowd m x ≡ false = keeps m 9 x faultless (class_subject m is_segment x segment) in
+    let kept : breaks_crowd m x ≡ false = breaks_no_rule m 9 x faultless (of_class_is_subject m is_segment x segment) in
     let many : has_many_marks m x ≡ false = (or_parts (has_many_marks m x) (has_many_terminals m x) kept).0 in
     rw length-append (upto (length (cuts_of m x) + length (clamps_of m x)) (is_of m is_segment x) segment many)
   where

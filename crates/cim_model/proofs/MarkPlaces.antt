@@ -19,10 +19,10 @@ use Rattle.cim_model.specs.Network.{first, mark_length, or_else, segment_of, val
 use Rattle.cim_model.specs.Profile.{IsFaultless, breaks_form, breaks_place, has_form, is_beyond, is_clamp_misplaced, is_cut_misplaced, share_one, shares_place, shares_with_clamp, shares_with_cut, states_wrongly, values}
 use Rattle.cim_model.specs.Stated.{clamp_lengths, clamps_of, cut_lengths, cuts_of, ids_said, or_zero, stated_lengths}
 use Rattle.cim_model.specs.Values.{length_said}
-use Rattle.cim_model.proofs.FaultlessSubjects.{keeps}
+use Rattle.cim_model.proofs.FaultlessSubjects.{breaks_no_rule}
 use Rattle.cim_model.proofs.LengthBounds.{said_within}
 use Rattle.cim_model.proofs.Marks.{either_value, not_other, uncounted}
-use Rattle.cim_model.proofs.SaidLemmas.{IsStated, class_subject, said_subject, says_naming, value_stated}
+use Rattle.cim_model.proofs.SaidLemmas.{IsStated, of_class_is_subject, said_subject, says_naming, value_stated}
 
 -- ---- a cut is no clamp
 
@@ -57,7 +57,7 @@ mark_within m y = of_zero (or_else (value_of length_said m y property.clamp_leng
 
 form_said : (m : List Statement) (x : ℕ) (k : KnownProp) (o : Object) → IsFaultless m → Among values k → counts m x k ≡ true → Among (said m x k) o → has_form k o ≡ true
 form_said m x k o faultless listed counted there =
-    let kept : breaks_form m x ≡ false = keeps m 7 x faultless (said_subject m x k o there) in
+    let kept : breaks_form m x ≡ false = breaks_no_rule m 7 x faultless (said_subject m x k o there) in
     let right : list_any (λ o. not (has_form k o)) (said m x k) ≡ false = and_first_false (list_any (λ o. not (has_form k o)) (said m x k)) (counts m x k) (none_among (states_wrongly m x) values k kept listed) counted in
     not-false (has_form k o) (none_among (λ o. not (has_form k o)) (said m x k) o right there)
 
@@ -98,7 +98,7 @@ mark_listed m x y on = elim (either_value (value_of id_said m y property.clamp_s
 
 place_free : (m : List Statement) (x y : ℕ) → IsFaultless m → is_of m is_cut y ≡ true → segment_of m y ≡ Some x → shares_place m y (cut_lengths m y) x ≡ false
 place_free m x y faultless cut on =
-    let kept : breaks_place m y ≡ false = keeps m 8 y faultless (class_subject m is_cut y cut) in
+    let kept : breaks_place m y ≡ false = breaks_no_rule m 8 y faultless (of_class_is_subject m is_cut y cut) in
     let stated : IsStated id_said m y property.cut_segment x = cut_states m x y faultless cut on in
     let placed : is_cut_misplaced m y ≡ false = of_cut (is_of m is_clamp y) (is_clamp_misplaced m y) (is_of m is_cut y) (is_cut_misplaced m y) kept cut in
     let free = none_among (λ s. is_beyond (cut_lengths m y) (stated_lengths m s) || shares_place m y (cut_lengths m y) s) (ids_said m y property.cut_segment) x placed

@@ -13,7 +13,7 @@ use Rattle.cim_words.specs.declared.statement.Statement.{Statement}
 use Rattle.cim_model.specs.Model.{counts, id_said, is_of}
 use Rattle.cim_model.specs.Network.{class_in, is_class, or_else, segment_of, value_of}
 use Rattle.cim_model.specs.Profile.{IsFaultless, is_target, names_target, references}
-use Rattle.cim_model.proofs.Classes.{one_class}
+use Rattle.cim_model.proofs.Classes.{is_of_by_class}
 use Rattle.cim_model.proofs.FaultlessSubjects.{target_said}
 use Rattle.cim_model.proofs.SaidLemmas.{IsStated, value_stated}
 
@@ -29,7 +29,7 @@ other_test test other (Some c) apart is = apart c is
 
 pub not_other : (test other : Class → Bool) (m : List Statement) (x : ℕ) → IsFaultless m → ((c : Class) → test c ≡ true → other c ≡ false) → is_of m test x ≡ true → is_of m other x ≡ false
 not_other test other m x faultless apart is =
-    one_class other m x faultless ∙ other_test test other (class_in m x) apart (sym (one_class test m x faultless) ∙ is)
+    is_of_by_class other m x faultless ∙ other_test test other (class_in m x) apart (sym (is_of_by_class test m x faultless) ∙ is)
 
 segment_no_clamp : (c : Class) → is_segment c ≡ true → is_clamp c ≡ false
 segment_no_clamp class.ACLineSegment is = refl

@@ -27,8 +27,8 @@ pub record IsLive (m : List Statement) (o : Overlay) : Type 0 where
 
 -- ---- an item by its identifier
 
-pub found_item : (o : Overlay) (x : ℕ) (one : TempItem) → item_of o x ≡ Some one → Among o.items one × (item_number one ≡ x)
-found_item o x one found =
+pub found_item_is_listed : (o : Overlay) (x : ℕ) (one : TempItem) → item_of o x ≡ Some one → Among o.items one × (item_number one ≡ x)
+found_item_is_listed o x one found =
     let there = find_among (λ (other : TempItem). item_number other == x) o.items one found in
     (there.0, eqb-true (item_number one) x there.1)
 
@@ -60,7 +60,7 @@ item_stands m o one live there = live.stands.items one (contains_among o.items o
 no_item_if : (m : List Statement) (o : Overlay) (x : ℕ) (found : Option TempItem) → IsLive m o → item_of o x ≡ found → is_subject m x ≡ true → found ≡ None
 no_item_if m o x None live is subject = refl
 no_item_if m o x (Some one) live is subject =
-    let there = found_item o x one is in
+    let there = found_item_is_listed o x one is in
     let fresh : is_subject m x ≡ false = ap (is_subject m) (sym there.1) ∙ (item_stands m o one live there.0).identifier in
     absurd (let both : true ≡ false = sym subject ∙ fresh in cc)
 

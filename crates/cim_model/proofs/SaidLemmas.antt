@@ -78,8 +78,8 @@ of_class m test x h =
     let from = filter_map_among class_named (said m x property.rdf_type) c.0 c.1 in
     (from.0, from.1)
 
-pub class_subject : (m : List Statement) (test : Class → Bool) (x : ℕ) → is_of m test x ≡ true → is_subject m x ≡ true
-class_subject m test x h = let type = of_class m test x h in said_subject m x property.rdf_type type.0 type.1
+pub of_class_is_subject : (m : List Statement) (test : Class → Bool) (x : ℕ) → is_of m test x ≡ true → is_subject m x ≡ true
+of_class_is_subject m test x h = let type = of_class m test x h in said_subject m x property.rdf_type type.0 type.1
 
 -- what is of one class passes just the tests that the class passes
 pub class_passes : (m : List Statement) (test : Class → Bool) (x : ℕ) (c : Class) → types m x ≡ c ∷ [] → is_of m test x ≡ true → test c ≡ true
@@ -95,7 +95,7 @@ pub class_fails : (m : List Statement) (test : Class → Bool) (x : ℕ) (c : Cl
 class_fails m test x c is fails = false_from_ne_true (is_of m test x) (λ h. let passes = class_passes m test x c is h in absurd cc)
 
 -- a value that is read off what is said
-first_among : {X : Type 0} (xs : List X) (x : X) → first xs ≡ Some x → Among xs x
+pub first_among : {X : Type 0} (xs : List X) (x : X) → first xs ≡ Some x → Among xs x
 first_among [] x h = absurd cc
 first_among (y ∷ ys) x h = inl (same_Some y x h)
 

@@ -8,10 +8,10 @@ use Rattle.cim_words.specs.declared.statement.Statement.{Statement}
 use Rattle.cim_model.specs.Model.{id_said, is_empty, is_of, said}
 use Rattle.cim_model.specs.Network.{or_else, segment_of, value_of}
 use Rattle.cim_model.specs.Profile.{IsFaultless, breaks_owner}
-use Rattle.cim_model.proofs.FaultlessSubjects.{keeps, named_value}
+use Rattle.cim_model.proofs.FaultlessSubjects.{breaks_no_rule, named_value}
 use Rattle.cim_model.proofs.MarkPlaces.{no_clamp}
 use Rattle.cim_model.proofs.Marks.{uncounted}
-use Rattle.cim_model.proofs.SaidLemmas.{class_subject}
+use Rattle.cim_model.proofs.SaidLemmas.{of_class_is_subject}
 
 names_one : (m : List Statement) (y : ℕ) → breaks_owner m y ≡ false → ((is_of m is_clamp y && is_empty (said m y property.clamp_segment)) ≡ false) × ((is_of m is_cut y && is_empty (said m y property.cut_segment)) ≡ false)
 names_one m y kept =
@@ -21,14 +21,14 @@ names_one m y kept =
 
 clamp_stands : (m : List Statement) (y : ℕ) → IsFaultless m → is_of m is_clamp y ≡ true → is_some (segment_of m y) ≡ true
 clamp_stands m y faultless clamp =
-    let kept : breaks_owner m y ≡ false = keeps m 3 y faultless (class_subject m is_clamp y clamp) in
+    let kept : breaks_owner m y ≡ false = breaks_no_rule m 3 y faultless (of_class_is_subject m is_clamp y clamp) in
     let named = and_second_false (is_of m is_clamp y) (is_empty (said m y property.clamp_segment)) (names_one m y kept).0 clamp in
     let x = named_value m y property.clamp_segment faultless (inr (inr (inr (inr (inr (inr (inr (inl refl)))))))) (inr (inr (inl refl))) clamp named in
     ap (λ (o : Option ℕ). is_some (or_else o (value_of id_said m y property.cut_segment))) x.1
 
 cut_stands : (m : List Statement) (y : ℕ) → IsFaultless m → is_of m is_cut y ≡ true → is_some (segment_of m y) ≡ true
 cut_stands m y faultless cut =
-    let kept : breaks_owner m y ≡ false = keeps m 3 y faultless (class_subject m is_cut y cut) in
+    let kept : breaks_owner m y ≡ false = breaks_no_rule m 3 y faultless (of_class_is_subject m is_cut y cut) in
     let named = and_second_false (is_of m is_cut y) (is_empty (said m y property.cut_segment)) (names_one m y kept).1 cut in
     let x = named_value m y property.cut_segment faultless (inr (inr (inr (inr (inr (inr (inr (inr (inr (inl refl)))))))))) (inr (inr (inr (inl refl)))) cut named in
     rw (uncounted id_said m y property.clamp_segment (no_clamp m y faultless cut)) (ap (λ (o : Option ℕ). is_some o) x.1)

@@ -10,7 +10,7 @@ use Rattle.cim_words.specs.declared.identifier.Id.{Id}
 use Rattle.cim_words.specs.declared.statement.Statement.{Statement}
 use Rattle.statement_set.specs.Runs.{first_subject, TakesSubject}
 use Rattle.statement_set.specs.Set.{IsOrdered}
-use Rattle.statement_set.proofs.Runs.{taken_off}
+use Rattle.statement_set.proofs.Runs.{takes_a_run}
 use Rattle.cim_model.specs.Model.{about, is_about, is_subject}
 use Rattle.cim_model.proofs.Runs.{IsNoneBelow, Rises, about_run, later, ordered_rises, rises_past, run_has, run_subject}
 
@@ -72,7 +72,7 @@ next_run m done s more split = record {
 run_off : (m done left after them : List Statement) (id : Id) → IsSplit m done left → TakesSubject left (Some (id, them)) after → IsNextRun m done them after id.number
 run_off m done [] after them id split taken = absurd (let e : Some (id, them) ≡ None = taken.0 in cc)
 run_off m done (s ∷ more) after them id split taken =
-    let off = taken_off s more id them after taken in
+    let off = takes_a_run s more id them after taken in
     subst (λ (i : Id). IsNextRun m done them after i.number) (sym off.subject)
     (subst (λ (rest : List Statement). IsNextRun m done them rest s.subject.number) (sym (off.back ∙ drop_past (is_about s.subject.number) (s ∷ more)))
     (subst (λ (run : List Statement). IsNextRun m done run (past (is_about s.subject.number) (s ∷ more)) s.subject.number) (sym (off.front ∙ take_front (is_about s.subject.number) (s ∷ more))) (next_run m done s more split)))

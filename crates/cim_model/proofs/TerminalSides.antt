@@ -16,8 +16,8 @@ use Rattle.cim_model.specs.Model.{is_empty, is_of, is_subject, naming, types}
 use Rattle.cim_model.specs.Network.{by_side, first, has_sides, is_some_number, number_of, owner_of, terminals_by_side, with_number}
 use Rattle.cim_model.specs.Profile.{IsFaultless, are_misnumbered, are_one_and_two, breaks_numbers, breaks_terminals, is_one, needs_no_numbers}
 use Rattle.cim_model.specs.Stated.{clamps_of, cuts_of, numbers_of, terminals_of}
-use Rattle.cim_model.proofs.FaultlessSubjects.{keeps}
-use Rattle.cim_model.proofs.FaultlessTerminals.{listed_owned, owned_listed, owner_subject}
+use Rattle.cim_model.proofs.FaultlessSubjects.{breaks_no_rule}
+use Rattle.cim_model.proofs.FaultlessTerminals.{listed_is_owned, owned_is_listed, owner_subject}
 
 -- the order adds nothing
 by_side_if : (m : List Statement) (ts : List ℕ) (t : ℕ) (b : Bool) → Among (cond b (with_number m 1 ts ++ with_number m 2 ts) ts) t → Among ts t
@@ -71,7 +71,7 @@ two_of (a ∷ []) h = absurd (omega arith)
 two_of (a ∷ b ∷ []) h = (a, b, refl)
 two_of (a ∷ b ∷ c ∷ xs) h = absurd (omega arith)
 
-number_stated : (m : List Statement) (t : ℕ) → is_of m is_terminal t ≡ true → number_of m t ≡ first (numbers_of m t)
+pub number_stated : (m : List Statement) (t : ℕ) → is_of m is_terminal t ≡ true → number_of m t ≡ first (numbers_of m t)
 number_stated m t terminal = ap (λ (b : Bool). cond b (first (numbers_of m t)) None) terminal
 
 numbered : (m : List Statement) (t n : ℕ) → is_of m is_terminal t ≡ true → is_one n (numbers_of m t) ≡ true → number_of m t ≡ Some n
@@ -122,11 +122,11 @@ sides_of_two m x t ts two =
     subst (λ (those : List ℕ). ((u : ℕ) → Among those u → is_of m is_terminal u ≡ true) → are_misnumbered m x those ≡ false → Among those t → Among (by_side m those) t) (sym two.2) (two_sides m x t two.0 two.1)
 
 -- what has sides, a segment or a cut, has two ends
-cut_switch : (c : Class) → is_cut c ≡ true → is_switch c ≡ true
+pub cut_switch : (c : Class) → is_cut c ≡ true → is_switch c ≡ true
 cut_switch class.Cut h = refl
 cut_switch _ h = absurd cc
 
-ends_of_sides : (c : Class) → has_sides c ≡ true → has_two_ends c ≡ true
+pub ends_of_sides : (c : Class) → has_sides c ≡ true → has_two_ends c ≡ true
 ends_of_sides c h = elim (or_cases (is_segment c) (is_cut c) h) [
   | inl segment ↦ or_left (is_segment c) (is_switch c) segment
   | inr cut ↦ or_right (is_segment c) (is_switch c) (cut_switch c cut)
@@ -152,8 +152,8 @@ has_two false b c d e h is = absurd cc
 
 sided : (m : List Statement) (x t : ℕ) → IsFaultless m → is_subject m x ≡ true → is_of m has_sides x ≡ true → Among (terminals_of m x) t → Among (by_side m (terminals_of m x)) t
 sided m x t faultless subject sides there =
-    let ends : breaks_terminals m x ≡ false = keeps m 5 x faultless subject in
-    let numbers : breaks_numbers m x ≡ false = keeps m 6 x faultless subject in
+    let ends : breaks_terminals m x ≡ false = breaks_no_rule m 5 x faultless subject in
+    let numbers : breaks_numbers m x ≡ false = breaks_no_rule m 6 x faultless subject in
     let count = length (terminals_of m x) in
     let two : count ≡ 2 = eqb-true count 2 (has_two (is_of m has_two_ends x) (count == 2) (is_of m is_single x) (count == 1) _ ends (two_ends m x sides)) in
     sides_of_two m x t (terminals_of m x) (two_of (terminals_of m x) two) (λ u has. among_filter_passes (is_of m is_terminal) (naming m property.conducting_equipment x) u has)
@@ -167,7 +167,7 @@ listed_if m x t false is faultless subject there = there
 
 -- so the terminals of equipment by side are those that it owns
 pub owned_side : (m : List Statement) (y t : ℕ) → IsFaultless m → owner_of m t ≡ Some y → Among (terminals_by_side m y) t
-owned_side m y t faultless owned = listed_if m y t (is_of m has_sides y) refl faultless (owner_subject m y t faultless owned) (owned_listed m y t owned)
+owned_side m y t faultless owned = listed_if m y t (is_of m has_sides y) refl faultless (owner_subject m y t faultless owned) (owned_is_listed m y t owned)
 
 pub side_owned : (m : List Statement) (y t : ℕ) → IsFaultless m → Among (terminals_by_side m y) t → owner_of m t ≡ Some y
-side_owned m y t faultless there = listed_owned m y t faultless (side_listed m y t there)
+side_owned m y t faultless there = listed_is_owned m y t faultless (side_listed m y t there)

@@ -3,6 +3,7 @@ use Rattle.std.proofs.Common.{◌≡◌, ℕ, List, [], ◌∷◌, map, Bool, tr
 use Rattle.std.specs.List.{filter, dedup, list_any}
 use Rattle.std.specs.Option.{option_eq}
 use Rattle.std.proofs.lemmas.Bool.{and_parts, eqb-true}
+use Rattle.cim_model.proofs.FaultlessSubjects.{empty_map}
 use Rattle.plain_laws.proofs.Tests.{any_dedup, any_map_filter}
 use Rattle.cim_words.specs.declared.class.Class.{Class}
 use Rattle.cim_words.specs.Properties as property
@@ -33,10 +34,6 @@ any_value test rows x = any_there test (values_at rows x) ∙ any_map_filter (is
 
 pub any_type : (test : Class → Bool) (values : List (Option Class)) (m : List Statement) (x : ℕ) → values ≡ map class_named (said m x property.rdf_type) → list_any test (present values) ≡ is_of m test x
 any_type test values m x same = ap (λ (those : List (Option Class)). list_any test (present those)) same ∙ ap (list_any test) (sym (filter_map_present class_named (said m x property.rdf_type)))
-
-empty_map : {Y Z : Type 0} (g : Y → Z) (objects : List Y) → is_empty (map g objects) ≡ is_empty objects
-empty_map g [] = refl
-empty_map g (y ∷ ys) = refl
 
 -- what the table of the rows holds, without the repeated ones
 pub types_kept : (same : Row (Option Class) → Row (Option Class) → Bool) → ((one other : Row (Option Class)) → same one other ≡ true → one ≡ other) → (m : List Statement) (rows kept table : List (Row (Option Class)))

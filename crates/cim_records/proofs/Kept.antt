@@ -15,8 +15,8 @@ use Rattle.cim_records.specs.Subject.{record_in, records, subject_in}
 use Rattle.cim_records.specs.Tables.{HoldsTerminals}
 use Rattle.cim_records.specs.declared.subject.Subject.{Subject}
 use Rattle.cim_records.proofs.Known.{is_known, subject_there}
-use Rattle.cim_model.proofs.Classes.{one_class}
-use Rattle.cim_model.proofs.SubjectLists.{among_subjects}
+use Rattle.cim_model.proofs.Classes.{is_of_by_class}
+use Rattle.cim_model.proofs.SubjectLists.{listed_as_subject}
 use Rattle.cim_records.proofs.Sides.{empty_by_side}
 use Rattle.cim_records.proofs.Taken.{Entry, taken, taken_same}
 
@@ -31,7 +31,7 @@ abbrev pub node_test : Entry → Bool
 node_test e = is_class is_node e.1.class
 
 pub nodes_kept : (m : List Statement) → IsFaultless m → kept node_test (records m) ≡ map as_id (network.nodes m)
-nodes_kept m faultless = taken_same key as_id node_test (is_of m is_node) m (subjects m) (λ x h. sym (one_class is_node m x faultless)) (λ x. refl)
+nodes_kept m faultless = taken_same key as_id node_test (is_of m is_node) m (subjects m) (λ x h. sym (is_of_by_class is_node m x faultless)) (λ x. refl)
 
 abbrev pub equipment_test : List (Id × List Id) → Entry → Bool
 equipment_test groups e = is_class is_equipment_class e.1.class || not (is_empty (members groups e.0.number))
@@ -39,11 +39,11 @@ equipment_test groups e = is_class is_equipment_class e.1.class || not (is_empty
 -- among the subjects it tells the equipment
 equipment_told : (m : List Statement) (groups : List (Id × List Id)) → IsFaultless m → HoldsTerminals m groups → (x : ℕ) → is_subject m x ≡ true → equipment_test groups (record_in m x) ≡ network.is_equipment m x
 equipment_told m groups faultless holds x is =
-    rw (is, holds x, ← one_class is_equipment_class m x faultless, empty_by_side m faultless x) refl
+    rw (is, holds x, ← is_of_by_class is_equipment_class m x faultless, empty_by_side m faultless x) refl
 
 pub equipment_kept : (m : List Statement) (groups : List (Id × List Id)) → IsFaultless m → HoldsTerminals m groups → kept (equipment_test groups) (records m) ≡ map as_id (network.equipment m)
 equipment_kept m groups faultless holds =
-    taken_same key as_id (equipment_test groups) (network.is_equipment m) m (subjects m) (λ x h. equipment_told m groups faultless holds x (sym (among_subjects x m) ∙ h)) (λ x. refl)
+    taken_same key as_id (equipment_test groups) (network.is_equipment m) m (subjects m) (λ x h. equipment_told m groups faultless holds x (sym (listed_as_subject x m) ∙ h)) (λ x. refl)
 
 pub equipment_passes : (groups : List (Id × List Id)) (e : Entry) (terminals : List Id) (b : Bool) → terminals ≡ members groups e.0.number → (is_class is_equipment_class e.1.class || not (is_empty terminals)) ≡ b → equipment_test groups e ≡ b
 equipment_passes groups e terminals b is h = ap (λ (list : List Id). is_class is_equipment_class e.1.class || not (is_empty list)) (sym is) ∙ h

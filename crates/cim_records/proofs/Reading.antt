@@ -17,7 +17,7 @@ use Rattle.cim_model.proofs.SubjectWalks.{IsNextRun, IsSplit, is_fresh, split_be
 use Rattle.cim_records.specs.Found.{found}
 use Rattle.cim_records.specs.Subject.{record_in, records, subject_in}
 use Rattle.cim_records.specs.declared.subject.Subject.{Subject}
-use Rattle.cim_model.proofs.SubjectLists.{among_subjects}
+use Rattle.cim_model.proofs.SubjectLists.{listed_as_subject}
 use Rattle.cim_records.proofs.Known.{found_map}
 
 -- ---- the subjects of a list and a run behind it
@@ -70,7 +70,7 @@ new_at : (m done : List Statement) (x : ℕ) (entries : List (Id × Subject)) �
 new_at m done x entries is none =
     ap (λ (those : List (Id × Subject)). found those x) is
     ∙ found_map (λ (k : ℕ). subject_in (about m k)) (subjects done) x
-    ∙ ap (λ (b : Bool). if b then Some (subject_in (about m x)) else None) (among_subjects x done ∙ none)
+    ∙ ap (λ (b : Bool). if b then Some (subject_in (about m x)) else None) (listed_as_subject x done ∙ none)
 
 pub entry_is_new : (m done left after them : List Statement) (id : Id) (o : Option (Id × List Statement)) (entries : List (Id × Subject)) → IsReading m done left entries
     → o ≡ Some (id, them) → TakesSubject left o after → found entries id.number ≡ None

@@ -12,8 +12,8 @@ use Rattle.cim_words.specs.declared.statement.Statement.{Statement}
 use Rattle.cim_model.specs.Model.{about, counts, is_about, is_subject, said}
 use Rattle.cim_model.specs.Network.{class_in, first, is_class, value_of}
 use Rattle.cim_model.specs.Profile.{IsFaultless, attributes, states_twice}
-use Rattle.cim_model.proofs.Classes.{one_class}
-use Rattle.cim_model.proofs.FaultlessSubjects.{keeps}
+use Rattle.cim_model.proofs.Classes.{is_of_by_class}
+use Rattle.cim_model.proofs.FaultlessSubjects.{breaks_no_rule}
 use Rattle.cim_records.specs.Subject.{read_of, value_in}
 
 -- ---- a subject of which nothing is said
@@ -40,7 +40,7 @@ value_at reads objects false true same h = absurd cc
 value_at reads objects false false same h = refl
 
 once_at : (m : List Statement) (x : ℕ) (i : ℕ) → IsFaultless m → i < 19 → (b : Bool) → is_subject m x ≡ b → states_twice m x (get_or attributes i property.rdf_type) ≡ false
-once_at m x i faultless within true is = none_at (states_twice m x) attributes i property.rdf_type (keeps m 2 x faultless is) within
+once_at m x i faultless within true is = none_at (states_twice m x) attributes i property.rdf_type (breaks_no_rule m 2 x faultless is) within
 once_at m x i faultless within false is = rw (silent m x is) refl
 
 -- a property states one value at most
@@ -48,4 +48,4 @@ pub value_is : {V : Type 0} (reads : Object → Option V) (m : List Statement) (
     → value_of reads m x (get_or attributes i property.rdf_type) ≡ value_in reads (class_in m x) (about m x) (get_or attributes i property.rdf_type)
 value_is reads m x i faultless within =
     let k = get_or attributes i property.rdf_type in
-    value_at reads (said m x k) (counts m x k) (is_class (counts_on k) (class_in m x)) (one_class (counts_on k) m x faultless) (once_at m x i faultless within (is_subject m x) refl)
+    value_at reads (said m x k) (counts m x k) (is_class (counts_on k) (class_in m x)) (is_of_by_class (counts_on k) m x faultless) (once_at m x i faultless within (is_subject m x) refl)

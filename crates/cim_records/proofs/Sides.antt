@@ -3,16 +3,15 @@ use Rattle.std.proofs.Common.{◌≡◌, ℕ, ◌==◌, List, [], ◌∷◌, ◌
 use Rattle.std.specs.Prelude.{if◌then◌else◌, is_some}
 use Rattle.std.specs.List.{filter, list_any}
 use Rattle.std.proofs.lemmas.List.Folds.{list_any-append, list_any_none}
-use Rattle.std.proofs.lemmas.Bool.{and_cases, and_parts, eqb-true, not-false, not_from_true, or_cases, or_left, or_parts, or_right}
+use Rattle.std.proofs.lemmas.Bool.{and_cases, and_parts, eqb-true, not-false, not_from_true, or_cases, or_parts}
 use Rattle.std.proofs.lemmas.List.Elements.{filter_passes}
-use Rattle.cim_model.proofs.TerminalSides.{empty_has_no_first, only_is_first}
+use Rattle.cim_model.proofs.TerminalSides.{empty_has_no_first, ends_of_sides, number_stated, only_is_first}
 use Rattle.plain_laws.proofs.Filters.{filter_always, filter_never}
 use Rattle.plain_laws.proofs.Tests.{any_map}
 use Rattle.plain_laws.proofs.Truth.{and_second_false}
-use Rattle.cim_words.specs.Groups.{has_two_ends, is_cut, is_segment, is_switch, is_terminal}
+use Rattle.cim_words.specs.Groups.{has_two_ends, is_cut, is_segment, is_terminal}
 use Rattle.cim_words.specs.Phases.{has_phase}
 use Rattle.cim_words.specs.declared.class.Class.{Class}
-use Rattle.cim_words.specs.declared.class.Class.TheVariants as class
 use Rattle.cim_words.specs.declared.identifier.Id.{Id}
 use Rattle.cim_words.specs.Properties as property
 use Rattle.cim_words.specs.declared.statement.Statement.{Statement}
@@ -23,9 +22,9 @@ use Rattle.cim_model.specs.Profile.{IsFaultless, are_misnumbered, are_one_and_tw
 use Rattle.cim_model.specs.Stated.{clamps_of, cuts_of, numbers_of, terminals_of}
 use Rattle.cim_model.specs.Values.{as_id}
 use Rattle.cim_records.proofs.Phases.{same_sets}
-use Rattle.cim_model.proofs.Classes.{one_class}
-use Rattle.cim_model.proofs.FaultlessSubjects.{keeps}
-use Rattle.cim_model.proofs.SaidLemmas.{class_subject}
+use Rattle.cim_model.proofs.Classes.{is_of_by_class}
+use Rattle.cim_model.proofs.FaultlessSubjects.{empty_map, breaks_no_rule}
+use Rattle.cim_model.proofs.SaidLemmas.{of_class_is_subject}
 
 -- those that pass a test, and behind them the others
 abbrev pub parted : (ℕ → Bool) → List ℕ → List ℕ
@@ -63,9 +62,6 @@ two_parted number t u a b c first_number other_number rule =
 
 -- ---- the terminals of equipment
 
-number_is : (m : List Statement) (t : ℕ) → is_of m is_terminal t ≡ true → number_of m t ≡ first (numbers_of m t)
-number_is m t h = rw h refl
-
 no_others : (p : ℕ → Bool) (xs : List ℕ) → list_any (λ t. not (p t)) (filter p xs) ≡ false
 no_others p xs = list_any_none (λ t. not (p t)) (filter p xs) (λ k d below. not_from_true _ (filter_passes p xs k d below))
 
@@ -79,21 +75,14 @@ sided m x (t ∷ u ∷ []) is two rule =
     let terminals = or_parts (not (is_of m is_terminal t)) _ (others_of m x (t ∷ u ∷ []) is) in
     let other = or_parts (not (is_of m is_terminal u)) _ terminals.1 in
     two_parted (number_of m) t u (numbers_of m t) (numbers_of m u) (is_of m is_segment x && is_empty (cuts_of m x) && is_empty (clamps_of m x))
-    (number_is m t (not-false _ terminals.0)) (number_is m u (not-false _ other.0)) rule
+    (number_stated m t (not-false _ terminals.0)) (number_stated m u (not-false _ other.0)) rule
 sided m x (t ∷ u ∷ v ∷ more) is two rule = absurd (omega arith)
 
 -- ---- what has sides
 
-cut_switches : (c : Class) → is_cut c ≡ true → is_switch c ≡ true
-cut_switches class.Cut h = refl
-cut_switches c h = absurd cc
-
-two_ended : (c : Class) → has_sides c ≡ true → has_two_ends c ≡ true
-two_ended c h = ⊎_elim (λ segment. or_left (is_segment c) (is_switch c) segment) (λ cut. or_right (is_segment c) (is_switch c) (cut_switches c cut)) (or_cases (is_segment c) (is_cut c) h)
-
 class_two_ended : (o : Option Class) → is_class has_sides o ≡ true → is_class has_two_ends o ≡ true
 class_two_ended None h = absurd cc
-class_two_ended (Some c) h = two_ended c h
+class_two_ended (Some c) h = ends_of_sides c h
 
 class_either : (o : Option Class) → (is_class is_segment o || is_class is_cut o) ≡ is_class has_sides o
 class_either None = refl
@@ -101,18 +90,18 @@ class_either (Some c) = refl
 
 module _ (m : List Statement) (faultless : IsFaultless m) (x : ℕ) where
   has_two : is_of m has_sides x ≡ true → is_of m has_two_ends x ≡ true
-  has_two h = one_class has_two_ends m x faultless ∙ class_two_ended (class_in m x) (sym (one_class has_sides m x faultless) ∙ h)
+  has_two h = is_of_by_class has_two_ends m x faultless ∙ class_two_ended (class_in m x) (sym (is_of_by_class has_sides m x faultless) ∙ h)
 
   is_either : is_of m has_sides x ≡ true → (is_of m is_segment x || is_of m is_cut x) ≡ true
-  is_either h = rw (one_class is_segment m x faultless, one_class is_cut m x faultless) (class_either (class_in m x) ∙ sym (one_class has_sides m x faultless) ∙ h)
+  is_either h = rw (is_of_by_class is_segment m x faultless, is_of_by_class is_cut m x faultless) (class_either (class_in m x) ∙ sym (is_of_by_class has_sides m x faultless) ∙ h)
 
   are_two : is_of m has_sides x ≡ true → length (terminals_of m x) ≡ 2
   are_two h =
-      let kept : breaks_terminals m x ≡ false = keeps m 5 x faultless (class_subject m has_sides x h) in
+      let kept : breaks_terminals m x ≡ false = breaks_no_rule m 5 x faultless (of_class_is_subject m has_sides x h) in
       eqb-true _ _ (not-false _ (and_second_false (is_of m has_two_ends x) _ (or_parts (is_of m has_two_ends x && not (length (terminals_of m x) == 2)) _ (or_parts _ _ kept).0).0 (has_two h)))
 
   well_numbered : is_of m has_sides x ≡ true → are_misnumbered m x (terminals_of m x) ≡ false
-  well_numbered h = and_second_false (is_of m is_segment x || is_of m is_cut x) _ (keeps m 6 x faultless (class_subject m has_sides x h)) (is_either h)
+  well_numbered h = and_second_false (is_of m is_segment x || is_of m is_cut x) _ (breaks_no_rule m 6 x faultless (of_class_is_subject m has_sides x h)) (is_either h)
 
   parted_at : (b : Bool) → is_of m has_sides x ≡ b → (if b then by_side m (terminals_of m x) else terminals_of m x) ≡ parted (λ t. b && is_first m t) (terminals_of m x)
   parted_at true is = sided m x (terminals_of m x) refl (are_two is) (well_numbered is)
@@ -137,12 +126,8 @@ parted_empty p (t ∷ ts) = at (p t) refl
     at true is = refl
     at false is = some_behind (filter p ts) t (filter (λ u. not (p u)) ts)
 
-map_empty : {X Y : Type 0} (f : X → Y) (xs : List X) → is_empty (map f xs) ≡ is_empty xs
-map_empty f [] = refl
-map_empty f (x ∷ xs) = refl
-
 pub empty_by_side : (m : List Statement) → IsFaultless m → (x : ℕ) → is_empty (map as_id (terminals_by_side m x)) ≡ is_empty (terminals_of m x)
-empty_by_side m faultless x = map_empty as_id (terminals_by_side m x) ∙ ap is_empty (terminals_parted m faultless x) ∙ parted_empty _ (terminals_of m x)
+empty_by_side m faultless x = empty_map as_id (terminals_by_side m x) ∙ ap is_empty (terminals_parted m faultless x) ∙ parted_empty _ (terminals_of m x)
 
 brought : (a b c : Bool) → (a || (b || c)) ≡ (b || (a || c))
 brought true true c = refl

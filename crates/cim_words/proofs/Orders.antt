@@ -9,7 +9,6 @@ use Rattle.plain_laws.proofs.Numbers.{cmp_equal}
 use Rattle.plain_laws.proofs.Sorted.{then_equal}
 use Rattle.cim_words.specs.KnownProp.{known_row}
 use Rattle.cim_words.specs.Order.{prop_order, object_order, statement_order}
-use Rattle.cim_words.specs.declared.identifier.Id.{Id}
 use Rattle.cim_words.specs.declared.known_prop.KnownProp.{KnownProp}
 use Rattle.cim_words.specs.declared.known_prop.KnownProp.TheVariants.{K1, K2, K3, K4, K5, K6, K7, K8, K9, K10, K11, K12, K13, K14, K15, K16, K17, K18, K19, K20}
 use Rattle.cim_words.specs.declared.known_prop.TheConstants.{KNOWN_PROPS}
@@ -160,8 +159,8 @@ same_object (object.Text t) (object.Name u) h = absurd cc
 same_object (object.Text t) (object.Text u) h = ap object.Text (exact_bytes t u h)
 
 -- statements that the order does not tell apart are one
-pub tied_statements : (s t : Statement) → statement_order s t ≡ Equal → s ≡ t
-tied_statements s t h =
+pub tied_statements_are_one : (s t : Statement) → statement_order s t ≡ Equal → s ≡ t
+tied_statements_are_one s t h =
     let first = then_equal (nat_cmp s.subject.number t.subject.number) (ordering_then (prop_order s.prop t.prop) (object_order s.object t.object)) h in
     let second = then_equal (prop_order s.prop t.prop) (object_order s.object t.object) first.1 in
     same_statement s t (same_id s.subject t.subject (cmp_equal s.subject.number t.subject.number first.0)) (same_prop s.prop t.prop second.0) (same_object s.object t.object second.1)

@@ -1,11 +1,10 @@
 -- What an identifier and a line look like once they are spelled.
-use Rattle.std.proofs.Common.{◌≡◌, ℕ, ◌<◌, List, [], ◌∷◌, true, IsTrue, refl, arith, codes, rules}
+use Rattle.std.proofs.Common.{◌≡◌, ℕ, ◌<◌, List, true, IsTrue, refl, arith, codes, rules}
 use Rattle.std.specs.List.{flat_map, list_all}
 use Rattle.std.specs.Str.{IsUtf8, IsAscii}
 use Rattle.std.proofs.lemmas.Str.Ascii.{IsAscii-from_all, IsAscii-cons, IsAscii-nil}
 use Rattle.std.proofs.lemmas.Str.{IsUtf8-append, IsUtf8-from_ascii}
 use Rattle.std.proofs.lemmas.Bool.Decides.{nat_tests}
-use Rattle.std.proofs.lemmas.Bool.{and_parts}
 use Rattle.plain_laws.proofs.Filters.{flat_map_itself}
 use Rattle.cim_words.specs.IdText.{id_iri, id_text, is_id_character}
 use Rattle.cim_words.specs.Written.{is_iri_character, iri_spelling}

@@ -6,7 +6,7 @@ use Rattle.std.proofs.lemmas.List.Quantifiers.{position-Some}
 use Rattle.std.proofs.lemmas.Map.Views.{lookup-from_Contains}
 use Rattle.std.proofs.lemmas.Option.{get_or_from_slice_get, same_Some, slice_get-map, slice_get_within}
 use Rattle.indexmap.specs.IndexMap.{insert_entry}
-use Rattle.std.proofs.lemmas.List.{get_or-map, take_more}
+use Rattle.std.proofs.lemmas.List.{get_or-map, map_push, take_more}
 use Rattle.std.proofs.lemmas.List.Elements.{Contains-push_cases}
 use Rattle.plain_laws.proofs.Members.{contains_cases, contains_first, contains_nothing, contains_rest}
 use Rattle.plain_laws.proofs.Options.{find_among, find_contains}
@@ -88,10 +88,6 @@ module _ (eq : Term → Term → Bool) (agrees : (t u : Term) → eq t u ≡ sam
 pub enters_none : (g : GraphView) (spokes : List Spoke) (a : List (Term × PhaseSet)) → EntersSpokes g (take 0 spokes) a a
 enters_none g spokes a true_to = (true_to, λ t h. ⊎_elim (λ l. l) (λ r. contains_nothing t r) h)
 
-map_push : (spokes : List Spoke) (s : Spoke) → map (λ (spoke : Spoke). spoke.term) (spokes ++ s ∷ []) ≡ map (λ (spoke : Spoke). spoke.term) spokes ++ s.term ∷ []
-map_push [] s = refl
-map_push (x ∷ xs) s = ap (λ (ts : List Term). x.term ∷ ts) (map_push xs s)
-
 enters_push : (g : GraphView) (spokes : List Spoke) (s : Spoke) (phases : PhaseSet) (a b c : List (Term × PhaseSet)) → EntersSpokes g spokes a b → phases ≡ phases_at g s.term → Enters s.term phases b c → EntersSpokes g (spokes ++ s ∷ []) a c
 enters_push g spokes s phases a b c first is then true_to =
     let before = first true_to in
@@ -105,7 +101,7 @@ enters_push g spokes s phases a b c first is then true_to =
           (λ r. ⊎_elim
           (λ l. keeps t (before.1 t (inr l)))
           (λ same. subst (λ (u : Term). Contains c (u, phases_at g u)) same (subst (λ (set : PhaseSet). Contains c (s.term, set)) is then.has))
-          (Contains-push_cases (map (λ (spoke : Spoke). spoke.term) spokes) s.term t (subst (λ (ts : List Term). Contains ts t) (map_push spokes s) r)))
+          (Contains-push_cases (map (λ (spoke : Spoke). spoke.term) spokes) s.term t (subst (λ (ts : List Term). Contains ts t) (map_push (λ (spoke : Spoke). spoke.term) spokes s) r)))
           h,
     )
 

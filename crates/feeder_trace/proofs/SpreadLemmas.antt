@@ -1,6 +1,6 @@
 -- How the points to which current goes on are marked, step by step.
 use Rattle.std.proofs.Common.{find, ◌&&◌, ◌≡◌, ◌+◌, ◌<◌, ◌⊎◌, ℕ, Bool, false, not, List, [], ◌∷◌, ◌++◌, length, map, take, get_or, Option, Some, None, IsTrue, Contains, refl, sym, ap, ◌∙◌, subst, inl, inr, ⊎_elim}
-use Rattle.std.proofs.lemmas.List.{take_more}
+use Rattle.std.proofs.lemmas.List.{map_push, take_more}
 use Rattle.std.proofs.lemmas.List.Elements.{Contains-append_left, Contains-push, Contains-push_cases}
 use Rattle.cim_words.specs.Phases.{has_phase}
 use Rattle.cim_words.specs.declared.phases.PhaseSet.{PhaseSet}
@@ -48,15 +48,11 @@ terms spokes = map (λ (spoke : Spoke). spoke.term) spokes
 pub spokes_none : (spokes : List Spoke) (except : Option Term) (phases : PhaseSet) (v : SearchView) → MarksAll (AmongSpokes (take 0 spokes) except phases) v v
 spokes_none spokes except phases v = marks_nothing (AmongSpokes (take 0 spokes) except phases) v (λ a h own. contains_nothing a.term h.0)
 
-map_push : (spokes : List Spoke) (s : Spoke) → map (λ (spoke : Spoke). spoke.term) (spokes ++ s ∷ []) ≡ map (λ (spoke : Spoke). spoke.term) spokes ++ s.term ∷ []
-map_push [] s = refl
-map_push (x ∷ xs) s = ap (λ (ts : List Term). x.term ∷ ts) (map_push xs s)
-
 spokes_push : (spokes : List Spoke) (s : Spoke) (except : Option Term) (phases : PhaseSet) (a b c : SearchView) → MarksAll (AmongSpokes spokes except phases) a b
     → MarksAll (λ x. AtTerm s.term phases x × (Some s.term ≡ except → ⊥)) b c → MarksAll (AmongSpokes (spokes ++ s ∷ []) except phases) a c
 spokes_push spokes s except phases a b c first then =
     let ts : List Term = map (λ (spoke : Spoke). spoke.term) spokes in
-    let grown = map_push spokes s in
+    let grown = map_push (λ (spoke : Spoke). spoke.term) spokes s in
     marks_as (λ x. AmongSpokes spokes except phases x ⊎ (AtTerm s.term phases x × (Some s.term ≡ except → ⊥))) (AmongSpokes (spokes ++ s ∷ []) except phases) a c
     (λ x h. ⊎_elim
     (λ l. (subst (λ (us : List Term). Contains us x.term) (sym grown) (Contains-append_left ts (s.term ∷ []) x.term l.0), l.1, l.2))

@@ -45,16 +45,16 @@ mark_found : (m : List Statement) (o : Overlay) (id : Id) (divides : Bool) (mark
     → unwrap_or (option_map (λ (one : MarkTerms). one.1) (found_terms m o id marks)) [] ≡ terms_of m o id.number
 mark_found m o id divides marks (one, there, is, divided) = terms_found m o id marks one (among_contained marks one there) (ap (λ (id : Id). id.number) is)
 
-own_same : (m : List Statement) (o : Overlay) (terms : List Term) → map (λ (s : Spoke). s.term) (map (spoke m o) terms) ≡ terms
-own_same m o [] = refl
-own_same m o (t ∷ terms) = ap (λ (rest : List Term). t ∷ rest) (own_same m o terms)
+-- the spokes of terminals are at them
+pub spokes_at_terms : (m : List Statement) (o : Overlay) (terms : List Term) → map (λ (s : Spoke). s.term) (map (spoke m o) terms) ≡ terms
+spokes_at_terms m o terms = map-map (λ (s : Spoke). s.term) (spoke m o) terms ∙ map-id terms
 
 -- ---- at a spot of the segment
 
 spot_same : (m : List Statement) (o : Overlay) (x : ℕ) (s : Spot) → IsOn (marks_on m o x) s → spot_term (inputs m o x) s ≡ term_at m o x s
 unfolding found_terms
-spot_same m o x EndOne on = ap (of_side EndOne) (own_same m o (terms_of m o x))
-spot_same m o x EndTwo on = ap (of_side EndTwo) (own_same m o (terms_of m o x))
+spot_same m o x EndOne on = ap (of_side EndOne) (spokes_at_terms m o (terms_of m o x))
+spot_same m o x EndTwo on = ap (of_side EndTwo) (spokes_at_terms m o (terms_of m o x))
 spot_same m o x (Clamp id) on = ap (of_side (Clamp id)) (mark_found m o id false (marks_on m o x) on)
 spot_same m o x (CutOne id) on = ap (of_side (CutOne id)) (mark_found m o id true (marks_on m o x) on)
 spot_same m o x (CutTwo id) on = ap (of_side (CutTwo id)) (mark_found m o id true (marks_on m o x) on)
@@ -68,5 +68,5 @@ lists_same m o x sections are =
     filter_map_same_among (spot_term (inputs m o x)) (term_at m o x) spots (λ s has.
     spot_same m o x s ((are.complete s).0 (contains_among (all_spots sections) s (among_flat_map (λ (spots : List Spot). spots) sections spots s there has)))))
 
-pub marks_same : (m : List Statement) (o : Overlay) (marks : List Mark) → map (λ (one : MarkTerms). one.0) (map (with_terms m o) marks) ≡ marks
-marks_same m o marks = map-map (λ (one : MarkTerms). one.0) (with_terms m o) marks ∙ map-id marks
+pub marks_of_mark_terms : (m : List Statement) (o : Overlay) (marks : List Mark) → map (λ (one : MarkTerms). one.0) (map (with_terms m o) marks) ≡ marks
+marks_of_mark_terms m o marks = map-map (λ (one : MarkTerms). one.0) (with_terms m o) marks ∙ map-id marks

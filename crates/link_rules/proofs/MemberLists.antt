@@ -14,10 +14,6 @@ use Rattle.segment_cuts.specs.declared.mark.Mark.{Mark}
 pub of_ids : {Y : Type 0} (f : ℕ → Option Y) (xs : List ℕ) → filter_map (λ (id : Id). f id.number) (map as_id xs) ≡ filter_map f xs
 of_ids f xs = filter_map_map (λ (id : Id). f id.number) as_id xs
 
--- the marks of the items on a segment
-gathered : (x : ℕ) (items : List TempItem) → filter_map item_mark (filter (is_item_on x) items) ≡ filter_map (mark_on x) items
-gathered x items = filter_map_filter (is_item_on x) item_mark items
-
 -- what is gathered is what there is of each, one after another
 listed_first : (found : Option Mark) (rest : List Mark) → cons_option found rest ≡ as_list found ++ rest
 listed_first None rest = refl
@@ -26,4 +22,4 @@ listed_first (Some mark) rest = refl
 pub each_listed : (x : ℕ) (items : List TempItem) → flat_map (λ (one : TempItem). as_list (mark_on x one)) items ≡ filter_map item_mark (filter (is_item_on x) items)
 each_listed x [] = refl
 each_listed x (one ∷ items) =
-    ap (λ (rest : List Mark). as_list (mark_on x one) ++ rest) (each_listed x items ∙ gathered x items) ∙ sym (listed_first (mark_on x one) (filter_map (mark_on x) items)) ∙ sym (gathered x (one ∷ items))
+    ap (λ (rest : List Mark). as_list (mark_on x one) ++ rest) (each_listed x items ∙ filter_map_filter (is_item_on x) item_mark items) ∙ sym (listed_first (mark_on x one) (filter_map (mark_on x) items)) ∙ sym (filter_map_filter (is_item_on x) item_mark (one ∷ items))

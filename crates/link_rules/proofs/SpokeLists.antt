@@ -6,8 +6,8 @@ use Rattle.plain_laws.proofs.Members.{Among}
 use Rattle.cim_model.specs.Live.{real, stated_place, terms_of}
 use Rattle.cim_model.specs.Network.{first, terminals_by_side}
 use Rattle.cim_model.specs.Sections.{second}
-use Rattle.cim_model.proofs.ItemSides.{place_stated, side_of}
-use Rattle.cim_model.proofs.OverlayItems.{found_item}
+use Rattle.cim_model.proofs.ItemSides.{standing_states_place, standing_is_side}
+use Rattle.cim_model.proofs.OverlayItems.{found_item_is_listed}
 use Rattle.cim_words.specs.declared.statement.Statement.{Statement}
 use Rattle.graph_pages.specs.declared.star.Spoke.{Spoke}
 use Rattle.link_rules.specs.Inputs.{listed_phases, spoke}
@@ -54,10 +54,10 @@ side_at m o one s number is at = rw (is, at) refl
 
 side_same : (m : List Statement) (o : Overlay) (one : TempItem) (x : ℕ) (s : Anchor × Term) → item_of o x ≡ Some one → Among (standing one) s → side_spoke one s ≡ spoke m o s.1
 side_same m o one x s is there =
-    let side = side_of one s there in
-    let named : item_number one ≡ x = (found_item o x one is).1 in
+    let side = standing_is_side one s there in
+    let named : item_number one ≡ x = (found_item_is_listed o x one is).1 in
     let own : item_of o s.1.owner.number ≡ Some one = ap (λ (id : _). item_of o id.number) side.owner ∙ ap (item_of o) named ∙ is in
-    sym (ap (spoke_at m o s.1) side.key ∙ side_at m o one s side.number own (place_stated one s there))
+    sym (ap (spoke_at m o s.1) side.key ∙ side_at m o one s side.number own (standing_states_place one s there))
 
 pub side_spokes : (m : List Statement) (o : Overlay) (x : ℕ) (one : TempItem) → item_of o x ≡ Some one → map (side_spoke one) (standing one) ≡ map (spoke m o) (terms_of m o x)
 side_spokes m o x one is =

@@ -1,9 +1,10 @@
 -- What may be missing, and the first of a list that passes a test. More of these laws stand in the standard library, in Option.
-use Rattle.std.proofs.Common.{◌≡◌, ℕ, ◌+◌, inl, inr, List, [], ◌∷◌, map, length, Bool, true, false, not, cond, nat_lt, Option, Some, None, IsTrue, IfSome, is_none, find, position, if◌then◌else◌, refl, ap, ap₂, sym, ◌∙◌, subst}
+use Rattle.std.proofs.Common.{◌≡◌, ℕ, ◌+◌, inl, inr, List, [], ◌∷◌, map, length, Bool, true, false, not, cond, nat_lt, Option, Some, None, IsTrue, IfSome, is_none, find, position, if◌then◌else◌, refl, ap, ap₂, ◌∙◌, subst}
 use Rattle.std.specs.List.{position_or_len}
 use Rattle.std.proofs.lemmas.Option.{same_Some}
 use Rattle.std.specs.Prelude.{Contains}
 use Rattle.plain_laws.proofs.Members.{Among, contains_among}
+use Rattle.plain_laws.proofs.Truth.{never_both}
 
 pub some_none : {X : Type 0} (x : X) → ◌≡◌ {A = Option X} (Some x) None → ⊥
 some_none x is = cc
@@ -36,15 +37,16 @@ find_among p (y ∷ ys) x h = found_one p y x ys (p y) refl (find_among p ys x) 
 pub find_contains : {X : Type 0} (p : X → Bool) (xs : List X) (x : X) → find p xs ≡ Some x → Contains xs x
 find_contains p xs x found = contains_among xs x (find_among p xs x found).0
 
-none_step : {X : Type 0} (y : X) (rest : Option X) (b : Bool) → (b ≡ false → rest ≡ None → ⊥) → cond b (Some y) rest ≡ None → ⊥
-none_step y rest true later none = cc
-none_step y rest false later none = later refl none
+-- nothing is chosen where neither the first nor anything of the rest is
+pub cond_none : {X : Type 0} (b : Bool) (y : X) (rest : Option X) → cond b (Some y) rest ≡ None → (b ≡ false) × (rest ≡ None)
+cond_none true y rest none = absurd cc
+cond_none false y rest none = (refl, none)
 
 -- where one passes, one is found
 pub among_find : {X : Type 0} (p : X → Bool) (xs : List X) (x : X) → Among xs x → p x ≡ true → find p xs ≡ None → ⊥
 among_find p [] x there passes none = there
-among_find p (y ∷ xs) x (inl is) passes none = none_step y (find p xs) (p y) (λ fails rest. let both : true ≡ false = sym (ap p is ∙ passes) ∙ fails in cc) none
-among_find p (y ∷ xs) x (inr there) passes none = none_step y (find p xs) (p y) (λ fails rest. among_find p xs x there passes rest) none
+among_find p (y ∷ xs) x (inl is) passes none = never_both (p y) (ap p is ∙ passes) (cond_none (p y) y (find p xs) none).0
+among_find p (y ∷ xs) x (inr there) passes none = among_find p xs x there passes (cond_none (p y) y (find p xs) none).1
 
 mapped_here : {X Y : Type 0} (f : X → Y) (p : Y → Bool) (z x : X) (rest : Option Y) (b : Bool) → p (f z) ≡ b → z ≡ x → p (f x) ≡ true → cond b (Some (f z)) rest ≡ Some (f x)
 mapped_here f p z x rest true is same passes = ap (λ (w : _). Some (f w)) same

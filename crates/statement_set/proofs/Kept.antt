@@ -10,7 +10,7 @@ use Rattle.std.proofs.lemmas.Bool.{and_from, and_parts, false_from_ne_true}
 use Rattle.plain_laws.proofs.Truth.{not_both}
 use Rattle.cim_words.specs.Order.{statement_order}
 use Rattle.cim_words.specs.declared.statement.Statement.{Statement}
-use Rattle.cim_words.proofs.Orders.{tied_statements}
+use Rattle.cim_words.proofs.Orders.{tied_statements_are_one}
 use Rattle.statement_set.specs.Set.{IsOrdered, IsSetOf, IsInFirstAlone}
 use Rattle.statement_set.proofs.Members.{holds, holds-iff}
 
@@ -40,7 +40,7 @@ copied gone statements i s within is out =
 
 filtered : (gone statements : List Statement) (s : Statement) → holds (filter (stays gone) statements) s ≡ (stays gone s && holds statements s)
 unfolding holds
-filtered gone statements s = any-filter_same (λ t. is_eq (statement_order s t)) (stays gone) (stays gone s) (λ t tied. ap (stays gone) (sym (tied_statements s t ((Equal-is (statement_order s t)).0 tied)))) statements
+filtered gone statements s = any-filter_same (λ t. is_eq (statement_order s t)) (stays gone) (stays gone s) (λ t tied. ap (stays gone) (sym (tied_statements_are_one s t ((Equal-is (statement_order s t)).0 tied)))) statements
 
 -- what stays is the first list without the second
 pub difference : (gone statements : List Statement) → IsOrdered statements → IsSetOf (IsInFirstAlone statements gone) (filter (stays gone) statements)

@@ -25,8 +25,8 @@ pub record IsTaken (s : Statement) (more : List Statement) (id : Id) (about afte
   pub front : about ≡ take (run_of (s ∷ more)) (s ∷ more)
   pub back : after ≡ drop (run_of (s ∷ more)) (s ∷ more)
 
-pub taken_off : (s : Statement) (more : List Statement) (id : Id) (about after : List Statement) → TakesSubject (s ∷ more) (Some (id, about)) after → IsTaken s more id about after
-taken_off s more id about after taken = record {
+pub takes_a_run : (s : Statement) (more : List Statement) (id : Id) (about after : List Statement) → TakesSubject (s ∷ more) (Some (id, about)) after → IsTaken s more id about after
+takes_a_run s more id about after taken = record {
   subject = ap (λ (o : Option (Id × List Statement)). (unwrap_or o (s.subject, [])).0) taken.0;
   front = ap (λ (o : Option (Id × List Statement)). (unwrap_or o (s.subject, [])).1) taken.0;
   back = taken.1;

@@ -1,9 +1,9 @@
 -- Marks of one segment that are apart, those of the model and those of the items.
 use Rattle.std.proofs.Common.{◌≡◌, ℕ, inl, inr, List, [], ◌∷◌, ◌++◌, map, Bool, true, false, not, ◌&&◌, ◌||◌, ◌==◌, cond, nat_eq, Option, Some, None, refl, ap, sym, ◌∙◌, subst, arith}
-use Rattle.std.specs.List.{AllPairs, IsDistinct, cons_option, filter, filter_map, list_all}
+use Rattle.std.specs.List.{AllPairs, IsDistinct, cons_option, filter_map, list_all}
 use Rattle.std.proofs.lemmas.List.Kept.{AllPairs-cons}
 use Rattle.std.proofs.lemmas.Bool.{and_from, eqb-false, eqb-true}
-use Rattle.cim_model.proofs.LiveMarks.{marked_id}
+use Rattle.cim_model.proofs.LiveMarks.{mark_has_item_id}
 use Rattle.plain_laws.proofs.Each.{all_from_among, each_read}
 use Rattle.plain_laws.proofs.Filters.{filter_map_filter}
 use Rattle.plain_laws.proofs.Members.{Among, among_filter_map, contains_among, filter_map_among}
@@ -17,7 +17,7 @@ use Rattle.cim_model.specs.Live.{item_segment_number}
 use Rattle.cim_model.specs.Marks.{is_item_on, item_mark, marks_of, marks_on}
 use Rattle.cim_model.specs.Stands.{AreApart}
 use Rattle.cim_model.specs.Values.{as_length, number_of_id}
-use Rattle.cim_model.proofs.MarkLists.{is_this}
+use Rattle.cim_model.proofs.MarkLists.{some_number_is}
 use Rattle.room_words.specs.Items.{item_number}
 use Rattle.room_words.specs.declared.items.TempItem.{TempItem}
 use Rattle.room_words.specs.declared.overlay.Overlay.{Overlay}
@@ -60,11 +60,8 @@ any_share xs a b pairs here there apart = elim (pairs_any Shares xs pairs a b (c
 
 -- ---- the marks of items
 
-gathered : (x : ℕ) (items : List TempItem) → filter_map item_mark (filter (is_item_on x) items) ≡ filter_map (mark_on x) items
-gathered x items = filter_map_filter (is_item_on x) item_mark items
-
 number_if : (one : TempItem) (mark : Mark) (b : Bool) → cond b (item_mark one) None ≡ Some mark → mark.id.number ≡ item_number one
-number_if one mark true is = sym (ap number_of_id (marked_id one mark is))
+number_if one mark true is = sym (ap number_of_id (mark_has_item_id one mark is))
 number_if one mark false is = absurd cc
 
 number_on : (x : ℕ) (one : TempItem) (mark : Mark) → mark_on x one ≡ Some mark → mark.id.number ≡ item_number one
@@ -109,7 +106,7 @@ beside_shares x a b other is apart passes =
 pub apart_marks : (m : List Statement) (o : Overlay) (x : ℕ) → IsDistinct nat_eq (map item_number o.items) → AreApart (marks_of m x)
     → ((one : TempItem) → Among o.items one → is_apart m o x one ≡ true) → AreApart (marks_on m o x)
 apart_marks m o x distinct model each =
-    subst (λ (marks : List Mark). AllPairs Shares (marks_of m x ++ marks)) (sym (gathered x o.items))
+    subst (λ (marks : List Mark). AllPairs Shares (marks_of m x ++ marks)) (sym (filter_map_filter (is_item_on x) item_mark o.items))
     (pairs_append Shares (marks_of m x) (filter_map (mark_on x) o.items) model (items_share x o.items distinct (λ one other a b here there apart is on.
     beside_shares x a b other on (λ same. apart (sym (number_on x one a is) ∙ same ∙ number_on x other b on))
     (all_among (is_beside x a) o.items (apart_parts m o x one a is (each one here)).1 other there)))
@@ -140,13 +137,13 @@ apart_if m o x one (Some mark) is there pairs =
 
 pub apart_each : (m : List Statement) (o : Overlay) (x : ℕ) → AreApart (marks_on m o x) → (one : TempItem) → Among o.items one → is_apart m o x one ≡ true
 apart_each m o x apart one there =
-    apart_if m o x one (mark_on x one) refl there (subst (λ (marks : List Mark). AllPairs Shares (marks_of m x ++ marks)) (gathered x o.items) apart)
+    apart_if m o x one (mark_on x one) refl there (subst (λ (marks : List Mark). AllPairs Shares (marks_of m x ++ marks)) (filter_map_filter (is_item_on x) item_mark o.items) apart)
 
 -- ---- at the segment on which it stands
 
 elsewhere : (m : List Statement) (o : Overlay) (x : ℕ) (one : TempItem) (b : Bool) → is_item_on x one ≡ b → is_apart_at_home m o one ≡ true → is_apart m o x one ≡ true
 elsewhere m o x one true on apart =
-    let home : item_segment_number one ≡ Some x = is_this x (item_segment_number one) on in
+    let home : item_segment_number one ≡ Some x = some_number_is x (item_segment_number one) on in
     sym (ap (λ (found : Option ℕ). if_there found (λ (x : ℕ). is_apart m o x one)) home) ∙ apart
 elsewhere m o x one false on apart =
     ap (λ (b : Bool). if_there (cond b (item_mark one) None) (λ (mark : Mark). list_all (may_share mark) (marks_of m x) && list_all (is_beside x mark) o.items)) on

@@ -2,7 +2,7 @@
 use Rattle.std.proofs.Common.{◌≡◌, ◌⊎◌, ℕ, inl, inr, List, map, Bool, true, false, cond, Option, Some, None, option_map, unwrap_or, refl, ap, sym, ◌∙◌, subst}
 use Rattle.std.specs.List.{filter_map}
 use Rattle.std.proofs.lemmas.Option.{none-some, same_Some}
-use Rattle.link_rules.proofs.LineTerms.{marks_same}
+use Rattle.link_rules.proofs.LineTerms.{marks_of_mark_terms}
 use Rattle.cim_model.specs.Live.{Conduction, PassesAll, PassesAlong, PassesNothing, PassesSwitched, PassesTransformed, conduction, is_term, item_segment_number, side_phases, stands_on, stated_phases, term_phases}
 use Rattle.cim_model.specs.Marks.{marks_on}
 use Rattle.cim_model.specs.Network.{segment_of, segment_phases}
@@ -49,7 +49,7 @@ line_passed m o g x pass PassesSwitched of_network is by = inr (ap line_in by)
 line_passed m o g x pass PassesAll of_network is by = inr (ap line_in by)
 line_passed m o g x pass PassesTransformed of_network is by = inr (ap line_in by)
 line_passed m o g x pass PassesAlong of_network is (sections, are, by) =
-    let own = subst (λ (marks : List Mark). AreSections marks sections) (marks_same m o (marks_on m o x)) are in
+    let own = subst (λ (marks : List Mark). AreSections marks sections) (marks_of_mark_terms m o (marks_on m o x)) are in
     inl (
       refl,
       (

@@ -9,7 +9,8 @@ use Rattle.std.proofs.lemmas.Bool.{eqb-true, false_from_ne_true}
 use Rattle.plain_laws.proofs.Each.{each_among, each_push}
 use Rattle.plain_laws.proofs.Members.{Among, map_among}
 use Rattle.plain_laws.proofs.Numbers.{equal_itself}
-use Rattle.plain_laws.proofs.Options.{among_find, find_among}
+use Rattle.plain_laws.proofs.Options.{among_find, cond_none, find_among}
+use Rattle.plain_laws.proofs.Truth.{never_both}
 use Rattle.cim_model.specs.Live.{is_live, is_place}
 use Rattle.cim_model.specs.Values.{as_id, number_of_id}
 use Rattle.cim_words.specs.declared.identifier.Id.{Id}
@@ -78,10 +79,6 @@ distinct_held m o held known holds = subst (IsDistinct same_anchor) (sym holds.k
 
 -- ---- looked up, they are the entries of the graph
 
-none_step : {X : Type 0} (y : X) (rest : Option X) (b : Bool) → (b ≡ false → rest ≡ None → ⊥) → cond b (Some y) rest ≡ None → ⊥
-none_step y rest true later none = cc
-none_step y rest false later none = later refl none
-
 star_at : (m : List Statement) (o : Overlay) (stars : List Star) (x : ℕ) (found : Option Star) → IsKnown m o → HoldsStars m o (owners m o) stars → star_in stars x ≡ found → IsStarAt m o x found
 star_at m o stars x (Some star) known holds is =
     let there = find_among (λ (star : Star). star.id.number == x) stars star is in
@@ -103,9 +100,8 @@ lookup_among p (one ∷ held) members is = lookup_step p one held members (p one
 
 none_looked_up : (p : Anchor → Bool) (held : List (Anchor × List Term)) (one : Anchor × List Term) → Among held one → p one.0 ≡ true → lookup p held ≡ None → ⊥
 none_looked_up p [] one there passes none = there
-none_looked_up p (first ∷ held) one (inl is) passes none =
-    none_step first.1 (lookup p held) (p first.0) (λ fails rest. let both : true ≡ false = sym (ap (λ (one : Anchor × List Term). p one.0) is ∙ passes) ∙ fails in cc) none
-none_looked_up p (first ∷ held) one (inr there) passes none = none_step first.1 (lookup p held) (p first.0) (λ fails rest. none_looked_up p held one there passes rest) none
+none_looked_up p (first ∷ held) one (inl is) passes none = never_both (p first.0) (ap (λ (one : Anchor × List Term). p one.0) is ∙ passes) (cond_none (p first.0) first.1 (lookup p held) none).0
+none_looked_up p (first ∷ held) one (inr there) passes none = none_looked_up p held one there passes (cond_none (p first.0) first.1 (lookup p held) none).1
 
 entry_at : (m : List Statement) (o : Overlay) (held : List (Anchor × List Term)) (place : Anchor) (found : Option (List Term)) → IsKnown m o → HoldsMembers m o (places m o) held → members_in held place ≡ found → IsEntry m o place found
 entry_at m o held place (Some members) known holds is =

@@ -2,10 +2,10 @@
 use Rattle.std.proofs.Common.{◌≡◌, ℕ, inl, inr, List, [], ◌∷◌, map, true, false, Some, Contains, refl, sym, subst}
 use Rattle.std.specs.List.{filter_map}
 use Rattle.std.proofs.lemmas.Option.{same_Some}
+use Rattle.cim_model.proofs.SaidLemmas.{first_among}
 use Rattle.plain_laws.proofs.Members.{Among, among_contained, among_filter_map, among_flat_map, among_map, contains_among, filter_map_among, map_among}
 use Rattle.cim_model.specs.Live.{is_term, terms_of}
 use Rattle.cim_model.specs.Marks.{marks_on}
-use Rattle.cim_model.specs.Network.{first}
 use Rattle.cim_model.specs.Sections.{StandsAtSpot, of_side, second, spot_owner, term_at}
 use Rattle.cim_words.specs.declared.statement.Statement.{Statement}
 use Rattle.graph_pages.specs.Graph.{GraphView}
@@ -19,10 +19,6 @@ use Rattle.topology.proofs.Entries.{IsGraphOf}
 use Rattle.topology.proofs.Lines.{IsAlong, IsLineOf}
 
 -- ---- the terminal at a spot is one of the spot's owner, which is along the segment
-
-first_among : {X : Type 0} (xs : List X) (x : X) → first xs ≡ Some x → Among xs x
-first_among [] x is = absurd cc
-first_among (y ∷ xs) x is = inl (same_Some y x is)
 
 second_among : {X : Type 0} (xs : List X) (x : X) → second xs ≡ Some x → Among xs x
 second_among [] x is = absurd cc
