@@ -108,8 +108,7 @@ impl<'a> Run<'a> {
     fn segment(&self) -> Option<Id>
         ensures { result ≡ option_map as_id (spec.segment_in self.now.class self.now.statements) }
     {
-        self.id(KnownProp::CLAMP_SEGMENT)
-            .or(self.id(KnownProp::CUT_SEGMENT))
+        self.id(KnownProp::CLAMP_SEGMENT).or(self.id(KnownProp::CUT_SEGMENT))
     }
 
     /// How far a clamp or a cut is from its segment's terminal 1: as stated, else at it.
