@@ -13,8 +13,9 @@ use Rattle.cim_model.specs.Profile.{IsFaultless, attributes, names_target}
 use Rattle.cim_model.specs.Stated.{terminals_at, terminals_of}
 use Rattle.std.proofs.lemmas.Option.{same_Some}
 use Rattle.std.proofs.lemmas.Bool.{and_from, or_right}
+use Rattle.std.specs.Prelude.{Contains, ◌↔◌}
 use Rattle.cim_words.specs.declared.known_prop.KnownProp.{KnownProp}
-use Rattle.plain_laws.proofs.Members.{Among, among_filter, among_filter_passes, filter_among}
+use Rattle.plain_laws.proofs.Members.{Among, among_contained, among_filter, among_filter_passes, contains_among, filter_among}
 use Rattle.cim_model.proofs.FaultlessSubjects.{among_some, named_value, one_class, owner_said, said_once, some_among, target_said}
 use Rattle.cim_model.proofs.SaidLemmas.{IsStated, naming_says, said_subject, says_naming, value_is, value_stated}
 
@@ -92,3 +93,9 @@ standing_is_listed m n t at = stated_listed m property.connectivity_node n t at
 
 pub listed_is_standing : (m : List Statement) (n t : ℕ) → IsFaultless m → Among (terminals_at m n) t → node_of m t ≡ Some n
 listed_is_standing m n t faultless listed = listed_stated m property.connectivity_node n t faultless (inr (inl refl)) listed
+
+pub stands_at : (m : List Statement) → IsFaultless m → (n t : ℕ) → (node_of m t ≡ Some n) ↔ Contains (terminals_at m n) t
+stands_at m faultless n t = (
+  λ stands. contains_among (terminals_at m n) t (standing_is_listed m n t stands),
+  λ listed. listed_is_standing m n t faultless (among_contained (terminals_at m n) t listed),
+)

@@ -5,16 +5,13 @@ pub mod FaultlessTerminals
 pub mod ItemSides
 pub mod LengthBounds
 pub mod LiveMarks
-pub mod LivePlaces
 pub mod LiveTerms
 pub mod MarkLists
-pub mod MarkPlaces
 pub mod Marks
 pub mod OneTrace
 pub mod OverlayItems
 pub mod Runs
 pub mod SaidLemmas
-pub mod Standing
 pub mod SubjectLists
 pub mod SubjectWalks
 pub mod TerminalSides

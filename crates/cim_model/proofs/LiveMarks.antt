@@ -21,8 +21,7 @@ use Rattle.cim_model.specs.Model.{is_of, is_subject, subjects, types}
 use Rattle.cim_model.specs.Network.{is_equipment, segment_of}
 use Rattle.cim_model.specs.Values.{number_of_id}
 use Rattle.cim_model.proofs.MarkLists.{are_marks, some_number_is}
-use Rattle.cim_model.proofs.MarkPlaces.{mark_within}
-use Rattle.cim_model.proofs.Marks.{on_segment, segment_on_none}
+use Rattle.cim_model.proofs.Marks.{on_segment, segment_on_none, mark_within}
 use Rattle.cim_model.proofs.OverlayItems.{IsLive, found_item_is_listed, item_found, item_stands, no_item, says_item, says_other}
 use Rattle.cim_model.proofs.SaidLemmas.{of_class_is_subject}
 use Rattle.cim_model.proofs.SubjectLists.{listed_subject}

@@ -19,8 +19,7 @@ use Rattle.cim_model.specs.Profile.{IsFaultless, breaks_crowd, has_many_marks, h
 use Rattle.cim_model.specs.Stated.{clamps_of, cuts_of}
 use Rattle.cim_model.specs.Values.{as_id, mm_of, number_of_id}
 use Rattle.cim_model.proofs.FaultlessSubjects.{breaks_no_rule}
-use Rattle.cim_model.proofs.MarkPlaces.{cut_apart, mark_listed, mark_within}
-use Rattle.cim_model.proofs.Marks.{on_segment}
+use Rattle.cim_model.proofs.Marks.{on_segment, cut_apart, mark_listed, mark_within}
 use Rattle.cim_model.proofs.SaidLemmas.{of_class_is_subject}
 use Rattle.cim_model.proofs.SubjectLists.{distinct_subjects}
 

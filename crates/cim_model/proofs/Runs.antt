@@ -5,7 +5,6 @@ use Rattle.std.specs.List.Sorted.{IsStrictlySortedBy}
 use Rattle.std.specs.declared.cmp.Ordering.TheVariants.{Less}
 use Rattle.std.proofs.lemmas.List.Elements.{filter-append}
 use Rattle.std.proofs.lemmas.Bool.{eqb-true, or_cases, or_left, or_right}
-use Rattle.statement_set.proofs.OneSubject.{subject_rises}
 use Rattle.plain_laws.proofs.Filters.{filter_none}
 use Rattle.plain_laws.proofs.Fronts.{filter_front, front, front_past, past}
 use Rattle.plain_laws.proofs.Numbers.{equal_itself}
@@ -13,6 +12,7 @@ use Rattle.cim_words.specs.Order.{statement_order}
 use Rattle.cim_words.specs.declared.statement.Statement.{Statement}
 use Rattle.statement_set.specs.Set.{IsOrdered}
 use Rattle.cim_model.specs.Model.{about, is_about, is_subject}
+use Rattle.statement_set.proofs.Runs.{subject_rises}
 
 -- ---- the front that passes a test, and what stands after it
 

@@ -11,7 +11,7 @@ use Rattle.cim_profile.specs.MarkKind.{is_mark, mark_lengths, segment_of}
 use Rattle.cim_profile.specs.Places.{is_misplaced, lies_wrongly}
 use Rattle.cim_profile.specs.declared.mark_kind.MarkKind.{MarkKind}
 use Rattle.cim_model.specs.Model.{about, is_by, said_in, id_said, named_by}
-use Rattle.cim_profile.proofs.Lists.{any_present, filter_map_present}
+use Rattle.cim_profile.proofs.RowValues.{any_present, filter_map_present}
 
 if_by : (p : ℕ → Bool) (o : Object) (b : Bool) → (b && is_present_and p (id_said o)) ≡ is_present_and p (cond b (id_said o) None)
 if_by p o true = refl

@@ -13,7 +13,7 @@ use Rattle.cim_model.specs.Model.{class_named, is_by, is_empty, is_of, said}
 use Rattle.cim_profile.specs.Table.{has_key, rows_at, values_at}
 use Rattle.cim_profile.specs.declared.table.Row.{Row}
 use Rattle.cim_profile.proofs.Held.{holds_kept}
-use Rattle.cim_profile.proofs.Lists.{any_there, filter_map_present}
+use Rattle.cim_profile.proofs.RowValues.{any_there, filter_map_present}
 
 -- ---- values of rows, as tests of the rows
 

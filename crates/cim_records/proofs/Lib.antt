@@ -4,9 +4,6 @@ pub mod Reading
 pub mod Phases
 pub mod Updates
 pub mod Taken
-pub mod Kept
-pub mod Marked
 pub mod Sides
 pub mod Stated
 pub mod Gathers
-pub mod Standing

@@ -1,10 +1,15 @@
 -- The part of a list in ascending order of a key that has one key.
-use Rattle.std.proofs.Common.{◌≡◌, ℕ, ◌+◌, ◌<◌, ◌≤◌, ◌==◌, List, ◌++◌, length, take, drop, get_or, ltb, leb, true, false, sym, ap, subst, ◌∙◌, arith}
-use Rattle.std.specs.List.{filter, All}
-use Rattle.std.specs.List.Sorted.{IsPartitionPoint}
+use Rattle.std.proofs.Common.{◌≡◌, ℕ, ◌+◌, ◌<◌, ◌≤◌, ◌==◌, List, ◌++◌, length, take, drop, get_or, ltb, leb, true, false, sym, ap, subst, ◌∙◌, arith, Bool, not, ◌&&◌, refl}
+use Rattle.std.specs.List.{All, filter, list_any}
+use Rattle.std.specs.List.Sorted.{IsPartitionPoint, IsPermutation, IsStableByKey, ties}
 use Rattle.std.proofs.lemmas.List.{take-append-drop, get_or-take, get_or-drop, length-take, length-drop}
-use Rattle.plain_laws.proofs.Filters.{filter_middle}
+use Rattle.std.specs.Ordering.{is_lt, nat_cmp}
+use Rattle.std.proofs.lemmas.Bool.Decides.{nat_tests}
+use Rattle.std.proofs.lemmas.List.Elements.{filter_agree}
+use Rattle.std.proofs.lemmas.List.Sorted.{list_any-IsPermutation}
+use Rattle.plain_laws.proofs.Filters.{filter_middle, filter_none}
 use Rattle.plain_laws.proofs.Numbers.{other_above, other_below, same_between}
+use Rattle.plain_laws.proofs.Tests.{any_among}
 
 -- what stands from where the keys are no longer below to where they are above
 part_from : {X : Type 0} (key : X → ℕ) (xs : List X) (n i j : ℕ) → i ≤ length xs → j ≤ length (drop i xs)
@@ -39,3 +44,22 @@ pub part_of_key : {X : Type 0} (key : X → ℕ) (xs rest : List X) (n i j : ℕ
     → take j rest ≡ filter (λ x. key x == n) xs
 part_of_key {X} key xs rest n i j is first second before within =
     rw is (part_from key xs n i j first (subst (λ (ys : List X). j ≤ length ys) is second) before (subst (λ (ys : List X). IsPartitionPoint (λ x. leb (key x) n ≡ true) (λ x. leb (key x) n ≡ false) ys j) is within))
+
+tied : (m n key : ℕ) → (m == key) ≡ true → (not (is_lt (nat_cmp m n)) && not (is_lt (nat_cmp n m))) ≡ (n == key)
+tied m n key h = grind (arith, nat_tests)
+
+-- a stable sort keeps it as it stands
+pub part_stays : {X : Type 0} (n : X → ℕ) (xs ys : List X) → IsPermutation xs ys → IsStableByKey n nat_cmp xs ys → (key : ℕ) → filter (λ x. n x == key) ys ≡ filter (λ x. n x == key) xs
+part_stays {X} n xs ys moved stable key = cases (list_any has xs) refl
+  where
+    has : X → Bool
+    has x = n x == key
+
+    cases : (b : Bool) → list_any has xs ≡ b → filter has ys ≡ filter has xs
+    cases false none = filter_none has ys (sym (list_any-IsPermutation has xs ys moved) ∙ none) ∙ sym (filter_none has xs none)
+    cases true any =
+        let some = any_among has xs any in
+        let x = some.0 in
+        let is = some.2 in
+        let alike : (y : X) → ties (λ a b. is_lt (nat_cmp (n a) (n b))) x y ≡ has y = λ y. tied (n x) (n y) key is in
+        sym (filter_agree (ties (λ a b. is_lt (nat_cmp (n a) (n b))) x) has alike ys) ∙ stable x ∙ filter_agree (ties (λ a b. is_lt (nat_cmp (n a) (n b))) x) has alike xs

@@ -6,7 +6,7 @@ use Rattle.std.proofs.lemmas.List.Sorted.{IsPartitionPoint-from_clause, IsPartit
 use Rattle.plain_laws.proofs.Parts.{part_of_key}
 use Rattle.cim_words.specs.declared.statement.Statement.{Statement}
 use Rattle.statement_set.specs.Set.{IsOrdered}
-use Rattle.statement_set.proofs.OneSubject.{subjects_rise, subject_of}
+use Rattle.statement_set.proofs.Runs.{subjects_rise, subject_of}
 use Rattle.statement_set.proofs.set.StatementSet.statements_about.Goals as goal
 
 pub returns : goal.returns
