@@ -1,7 +1,7 @@
 -- What holds of each element of a list, by recursion over it and by membership.
-use Rattle.std.proofs.Common.{inl, inr, List, [], ◌∷◌, ◌++◌, map, Bool, true, false, cond, refl, subst}
+use Rattle.std.proofs.Common.{inl, inr, List, [], ◌∷◌, ◌++◌, map, refl, subst}
 use Rattle.std.specs.Prelude.{Contains}
-use Rattle.std.specs.List.{All, AllByRecursion, filter, flat_map}
+use Rattle.std.specs.List.{All, AllByRecursion, flat_map}
 use Rattle.std.proofs.lemmas.List.Elements.{All-contains}
 use Rattle.plain_laws.proofs.Members.{Among, among_index, contains_among, flat_map_among}
 
@@ -27,15 +27,6 @@ each_append P (x ∷ xs) ys first second = (first.0, each_append P xs ys first.1
 
 pub each_push : {X : Type 0} (P : X → Type 0) (xs : List X) (x : X) → AllByRecursion P xs → P x → AllByRecursion P (xs ++ x ∷ [])
 each_push P xs x all one = each_append P xs (x ∷ []) all (one, tt)
-
-kept_one : {X : Type 0} (P : X → Type 0) (x : X) (xs : List X) (b : Bool) → P x → AllByRecursion P xs → AllByRecursion P (cond b (x ∷ xs) xs)
-kept_one P x xs true one all = (one, all)
-kept_one P x xs false one all = all
-
--- of those that pass a test
-pub each_filter : {X : Type 0} (P : X → Type 0) (p : X → Bool) (xs : List X) → AllByRecursion P xs → AllByRecursion P (filter p xs)
-each_filter P p [] all = tt
-each_filter P p (x ∷ xs) all = kept_one P x (filter p xs) (p x) all.0 (each_filter P p xs all.1)
 
 pub each_weaker : {X : Type 0} (P Q : X → Type 0) (xs : List X) → ((x : X) → P x → Q x) → AllByRecursion P xs → AllByRecursion Q xs
 each_weaker P Q [] weaker all = tt

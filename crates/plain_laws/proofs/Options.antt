@@ -1,5 +1,5 @@
 -- What may be missing, and the first of a list that passes a test. More of these laws stand in the standard library, in Option.
-use Rattle.std.proofs.Common.{◌≡◌, ℕ, ◌+◌, inl, inr, List, [], ◌∷◌, map, length, Bool, true, false, not, cond, nat_lt, Option, Some, None, IsTrue, IfSome, is_none, find, position, if◌then◌else◌, refl, ap, ap₂, ◌∙◌, subst}
+use Rattle.std.proofs.Common.{◌≡◌, ℕ, ◌+◌, inl, inr, List, [], ◌∷◌, length, Bool, true, false, not, cond, nat_lt, Option, Some, None, IsTrue, IfSome, is_none, find, position, if◌then◌else◌, refl, ap, ap₂, ◌∙◌, subst}
 use Rattle.std.specs.List.{position_or_len}
 use Rattle.std.proofs.lemmas.Option.{same_Some}
 use Rattle.std.specs.Prelude.{Contains}
@@ -47,20 +47,6 @@ pub among_find : {X : Type 0} (p : X → Bool) (xs : List X) (x : X) → Among x
 among_find p [] x there passes none = there
 among_find p (y ∷ xs) x (inl is) passes none = never_both (p y) (ap p is ∙ passes) (cond_none (p y) y (find p xs) none).0
 among_find p (y ∷ xs) x (inr there) passes none = among_find p xs x there passes (cond_none (p y) y (find p xs) none).1
-
-mapped_here : {X Y : Type 0} (f : X → Y) (p : Y → Bool) (z x : X) (rest : Option Y) (b : Bool) → p (f z) ≡ b → z ≡ x → p (f x) ≡ true → cond b (Some (f z)) rest ≡ Some (f x)
-mapped_here f p z x rest true is same passes = ap (λ (w : _). Some (f w)) same
-mapped_here f p z x rest false is same passes = absurd (let there : p (f z) ≡ p (f x) = ap (λ (w : _). p (f w)) same in cc)
-
-mapped_later : {X Y : Type 0} (f : X → Y) (p : Y → Bool) (z x : X) (rest : Option Y) (b : Bool) → p (f z) ≡ b → (p (f z) ≡ true → z ≡ x) → rest ≡ Some (f x) → cond b (Some (f z)) rest ≡ Some (f x)
-mapped_later f p z x rest true is only later = ap (λ (w : _). Some (f w)) (only is)
-mapped_later f p z x rest false is only later = later
-
--- the first of the values at the elements, where one element alone has a value that passes
-pub find_map : {X Y : Type 0} (f : X → Y) (p : Y → Bool) (xs : List X) (x : X) → Among xs x → p (f x) ≡ true → ((z : X) → p (f z) ≡ true → z ≡ x) → find p (map f xs) ≡ Some (f x)
-find_map f p [] x h passes only = absurd h
-find_map f p (z ∷ xs) x (inl is) passes only = mapped_here f p z x (find p (map f xs)) (p (f z)) refl is passes
-find_map f p (z ∷ xs) x (inr there) passes only = mapped_later f p z x (find p (map f xs)) (p (f z)) refl (only z) (find_map f p xs x there passes only)
 
 first_same : {X : Type 0} (f h : X → Bool) → ((x : X) → f x ≡ h x) → (xs : List X) → position_or_len f xs ≡ position_or_len h xs
 first_same f h agree [] = refl
