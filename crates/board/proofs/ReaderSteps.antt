@@ -1,5 +1,6 @@
 -- The steps of a reader keep the rule.
 use Rattle.std.proofs.Common.{◌≡◌, ◌≢◌, ℕ, ◌+◌, ◌*◌, ◌^◌, ◌<◌, ◌≤◌, true, false, cond, List, [], ◌∷◌, length, get_or, set, sym, refl, ap, ◌∙◌, subst, arith, Option, Some, None, length-set, get_or-set_same, All}
+use mathlib.Core.Option as maybe
 use mathlib.Core.Option.{none, some, some-injective}
 use lib.ListN.{get_elem?}
 use Rattle.std.proofs.lemmas.List.Elements.{All-weaker, All-nil}
@@ -7,6 +8,7 @@ use Rattle.atomic_table.specs.Table.{State, Me, step, keeps, takes, gives, chain
 use Rattle.atomic_table.proofs.Lists.{set_here, set_else}
 use Rattle.board.specs.declared.views.Knows.{Knows}
 use Rattle.board.specs.declared.views.Old.{Old}
+use Rattle.board.specs.declared.views.Sending.{Sending}
 use Rattle.board.specs.declared.views.Watching.{Watching}
 use Rattle.board.specs.declared.views.Role.{Role}
 use Rattle.board.specs.declared.views.Role.TheVariants.{Reader, Writer}
@@ -118,6 +120,20 @@ module _ {V I O : Type 0} (log : V → List I) (origin : V → O) where
         λ q' is'. same_reader (λ z. let m' : M = (v', m.1) in (m' ≡ (as_reader m.0 (looked found z), m.1)) × (length m.0.list ≤ newest found z)) m.0.role q q' is is' (refl, seen),
       )
 
+  -- where the reader's own slot changes, its console is as it was
+  console_beside : (p : Sending) (writer : K) (homes : Homes V) (seen : List I) (q : Watching) (found : ℕ) (x : maybe.Option (Option V)) → Watches p homes seen q found → q.console < p.started
+      → Console log origin writer p homes q.console found → Console log origin writer p (set homes (3 * q.console + q.front) x) q.console found
+  console_beside p writer homes seen q found x watches started c = record {
+    apart = c.apart;
+    narrow = c.narrow;
+    version = c.version;
+    lies = set_else homes (3 * q.console + q.front) (3 * q.console + slot_in found) x (λ e. watches.apart.1 (omega arith)) ∙ c.lies;
+    is_version = c.is_version;
+    sent = c.sent;
+    unheld = λ l. set_else homes (3 * q.console + q.front) (3 * q.console + back_at p q.console) x (λ e. watches.apart.2 (omega arith)) ∙ c.unheld l;
+    unstarted = λ l. absurd (omega arith);
+  }
+
   pub arms_allowed : (slots id : ℕ) (m : M) (q : Watching) → m.0.role ≡ Reader q → q.ready ≡ false → Allows (Stands log origin) slots id m q.console (λ n. n) (arms (step slots q.console 0 0 none) m)
   arms_allowed slots id m q is unready s r deep at lt =
       let found : ℕ = get_or s.words q.console 0 in
@@ -136,16 +152,7 @@ module _ {V I O : Type 0} (log : V → List I) (origin : V → O) where
           console_is = refl;
           deep = length-set s.homes (3 * q.console + q.front) none;
           slots = λ d j ne l. one_slot s.homes q.console d j q.front none ne l w.apart.0;
-          console = record {
-            apart = c.apart;
-            narrow = c.narrow;
-            version = c.version;
-            lies = set_else s.homes (3 * q.console + q.front) (3 * q.console + slot_in found) none (λ e. w.apart.1 (omega arith)) ∙ c.lies;
-            is_version = c.is_version;
-            sent = c.sent;
-            unheld = λ l. set_else s.homes (3 * q.console + q.front) (3 * q.console + back_at r.sending q.console) none (λ e. w.apart.2 (omega arith)) ∙ c.unheld l;
-            unstarted = λ l. absurd (let a = k.2 in omega arith);
-          };
+          console = console_beside r.sending r.writer s.homes m.0.list q found none w k.2 c;
           believes = record { begins = k.0.begins; began = k.0.began; olds = k.0.olds };
           olds = k.3;
           watches = record {
@@ -181,16 +188,7 @@ module _ {V I O : Type 0} (log : V → List I) (origin : V → O) where
           console_is = refl;
           deep = length-set s.homes f (some None);
           slots = λ d j ne l. one_slot s.homes q.console d j q.front (some None) ne l w.apart.0;
-          console = record {
-            apart = c.apart;
-            narrow = c.narrow;
-            version = c.version;
-            lies = set_else s.homes f (3 * q.console + slot_in found) (some None) (λ e. w.apart.1 (omega arith)) ∙ c.lies;
-            is_version = c.is_version;
-            sent = c.sent;
-            unheld = λ l. set_else s.homes f (3 * q.console + back_at r.sending q.console) (some None) (λ e. w.apart.2 (omega arith)) ∙ c.unheld l;
-            unstarted = λ l. absurd (let a = k.2 in omega arith);
-          };
+          console = console_beside r.sending r.writer s.homes v.list q found (some None) w k.2 c;
           believes = record { begins = k.0.begins; began = k.0.began; olds = k.0.olds };
           olds = k.3;
           watches = record {

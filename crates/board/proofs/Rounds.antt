@@ -126,21 +126,12 @@ module _ {V I O : Type 0} (log : V → List I) (origin : V → O) where
         began = h.began;
       }
 
-  -- one copy fewer
-  pub one_share : (shares : List V) (v d : V) (k : ℕ) → shares ≡ replicate k v → 0 < k → get_or shares (length shares - 1) d ≡ v
-  one_share shares v d k is some_left = let e : length shares ≡ k = ap length is ∙ length-replicate k v in
-      (λ i. get_or (is i) (e i - 1) d) ∙ get_or-replicate k (k - 1) v d (omega arith)
+  -- one copy fewer: the last of some equal copies is taken off
+  pub popped_share : (shares : List V) (v : V) (popped : Option V) (n k : ℕ) → shares ≡ replicate k v → n ≡ length shares → 0 < k → (0 < n → popped ≡ Some (get_or shares (n - 1) v)) → popped ≡ Some v
+  popped_share shares v popped n k are long some_left value =
+      let e : length shares ≡ k = ap length are ∙ length-replicate k v in
+      value (omega arith) ∙ ap (λ m. Some (get_or shares (m - 1) v)) long ∙ ap Some ((λ i. get_or (are i) (e i - 1) v) ∙ get_or-replicate k (k - 1) v v (omega arith))
 
   pub fewer_shares : (shares : List V) (v : V) (k : ℕ) → shares ≡ replicate k v → take (length shares - 1) shares ≡ replicate (k - 1) v
   fewer_shares shares v k is = let e : length shares ≡ k = ap length is ∙ length-replicate k v in
       (λ i. take (e i - 1) (is i)) ∙ take-replicate (k - 1) k v (omega arith)
-
-  pub given : (x : Option V) {v : V} → x ≡ None → x ≡ Some v → ⊥
-  given x {v} none is = let e : None ≡ Some v = sym none ∙ is in cc e
-
-  abbrev version_or : V → Option V → V
-  version_or d (Some v) = v
-  version_or d None = d
-
-  pub taken : (x : Option V) (v : V) {w : V} → x ≡ Some v → x ≡ Some w → v ≡ w
-  taken x v {w} a b = ap (version_or v) (sym a ∙ b)

@@ -120,13 +120,6 @@ module _ {V I O : Type 0} (log : V → List I) (origin : V → O) where
   pub in_slot : (m : M) (v : Knows I O) (k j : ℕ) (x y : Option V) (cs : List (ℕ × Option V)) → m ≡ (v, (j, x) ∷ cs) → m.1 ≡ (k, y) ∷ rest m.1 → y ≡ x
   in_slot m v k j x y cs is held = sym (ap (head_or None) held) ∙ ap (λ (z : M). head_or None z.1) is
 
-  abbrev version_or : V → Option V → V
-  version_or d (Some v) = v
-  version_or d None = d
-
-  pub same_version : (v w : V) (x : Option V) → x ≡ Some v → x ≡ Some w → v ≡ w
-  same_version v w x a b = ap (version_or v) (sym a ∙ b)
-
   -- the slot that a seat has in hand first
   pub in_hand : (m : M) (v : Knows I O) (k j : ℕ) (x : Option V) (cs : List (ℕ × Option V)) → m ≡ (v, (j, x) ∷ cs) → k ≡ j → m.1 ≡ (k, x) ∷ rest m.1
   in_hand m v k j x cs is same =

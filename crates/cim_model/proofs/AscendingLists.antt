@@ -1,13 +1,18 @@
 -- What ascends in an ordered model.
-use Rattle.std.proofs.Common.{◌≡◌, ℕ, ◌<◌, ◌≤◌, inl, inr, List, [], ◌∷◌, map, Bool, true, false, cond, refl, ap, sym, ◌∙◌, subst, arith}
+use Rattle.std.proofs.Common.{◌≡◌, ℕ, ◌<◌, ◌≤◌, List, [], ◌∷◌, map, Bool, true, false, cond, refl, ap, sym, ◌∙◌, subst, arith}
 use Rattle.std.specs.List.{AllByRecursion, filter}
 use Rattle.std.specs.List.Sorted.{IsStrictlyIncreasing, IsStrictlySortedBy}
-use Rattle.std.specs.Ordering.{nat_cmp, ordering_then}
-use Rattle.std.specs.declared.cmp.Ordering.{Ordering}
-use Rattle.std.specs.declared.cmp.Ordering.TheVariants.{Less, Equal, Greater}
+use Rattle.std.specs.Ordering.{nat_cmp}
+use Rattle.std.specs.declared.cmp.Ordering.TheVariants.{Less, Equal}
 use Rattle.std.proofs.lemmas.Bool.Decides.{nat_tests}
 use Rattle.std.proofs.lemmas.List.Kept.{IsStrictlyIncreasing-filter}
 use Rattle.std.proofs.lemmas.Map.Keys.{IsStrictlyIncreasing-from_sorted}
+use Rattle.std.proofs.lemmas.Bool.{eqb-true}
+use Rattle.plain_laws.proofs.Each.{each_from_among}
+use Rattle.plain_laws.proofs.Members.{Among, contains_among}
+use Rattle.plain_laws.proofs.Numbers.{less_cmp}
+use Rattle.plain_laws.proofs.Sorted.{then_first}
+use Rattle.plain_laws.proofs.Truth.{and_first, and_second}
 use Rattle.cim_words.specs.Groups.{is_node, is_terminal}
 use Rattle.cim_words.specs.KnownProp.{known_row}
 use Rattle.cim_words.specs.Order.{object_order, prop_order, statement_order}
@@ -23,18 +28,9 @@ use Rattle.cim_model.specs.Marks.{is_on, mark, marks_of}
 use Rattle.cim_model.specs.Model.{is_by, is_id, is_naming, is_of, is_property, is_subject, naming, subjects}
 use Rattle.cim_model.specs.Network.{equipment, is_equipment, nodes}
 use Rattle.cim_model.specs.Stated.{terminals_at}
-use Rattle.cim_model.proofs.ListMembers.{Among, contains_among}
-use Rattle.cim_model.proofs.Runs.{Rises, ordered_rises, same_number}
-use Rattle.cim_model.proofs.SaidLemmas.{both_left, both_right}
+use Rattle.cim_model.proofs.Runs.{Rises, ordered_rises}
 use Rattle.cim_model.proofs.SubjectLists.{listed_subject}
 use Rattle.segment_cuts.specs.declared.mark.Mark.{Mark}
-
-less_than : (n m : ℕ) → n < m → nat_cmp n m ≡ Less
-less_than n m h = grind (arith, nat_tests)
-
-all_each : {X : Type 0} (P : X → Type 0) (xs : List X) → ((x : X) → Among xs x → P x) → AllByRecursion P xs
-all_each P [] each = tt
-all_each P (x ∷ xs) each = (each x (inl refl), all_each P xs (λ y there. each y (inr there)))
 
 -- ---- subjects
 
@@ -44,13 +40,13 @@ above m x y low other there =
     let least : x ≤ y = low y subject in
     let apart : x ≡ y → ⊥ = λ same. let both : true ≡ false = sym subject ∙ ap (is_subject m) (sym same) ∙ other in cc in
     let less : x < y = omega (arith, least, apart) in
-    less_than x y less
+    less_cmp x y less
 
 sorted_one : (x : ℕ) (rest : List Statement) (b : Bool) → is_subject rest x ≡ b → ((z : ℕ) → is_subject rest z ≡ true → x ≤ z) → IsStrictlySortedBy nat_cmp (subjects rest)
     → IsStrictlySortedBy nat_cmp (cond b (subjects rest) (x ∷ subjects rest))
 unfolding IsStrictlySortedBy
 sorted_one x rest true is low sorted = sorted
-sorted_one x rest false is low sorted = (all_each (λ y. nat_cmp x y ≡ Less) (subjects rest) (λ y there. above rest x y low is there), sorted)
+sorted_one x rest false is low sorted = (each_from_among (λ y. nat_cmp x y ≡ Less) (subjects rest) (λ y there. above rest x y low is there), sorted)
 
 sorted_subjects : (m : List Statement) → Rises m → IsStrictlySortedBy nat_cmp (subjects m)
 unfolding IsStrictlySortedBy
@@ -82,30 +78,25 @@ subject_number s = s.subject.number
 
 same_prop : (k : KnownProp) (p q : Prop) → is_property k p ≡ true → is_property k q ≡ true → prop_order p q ≡ Equal
 same_prop k (prop.Known a) (prop.Known b) is also =
-    let same : known_row a ≡ known_row b = same_number (known_row a) (known_row k) is ∙ sym (same_number (known_row b) (known_row k) also) in
+    let same : known_row a ≡ known_row b = eqb-true (known_row a) (known_row k) is ∙ sym (eqb-true (known_row b) (known_row k) also) in
     grind (arith, nat_tests)
 same_prop k (prop.Other a) q is also = absurd cc
 same_prop k (prop.Known a) (prop.Other b) is also = absurd cc
 
 same_object : (x : ℕ) (p q : Object) → is_id x p ≡ true → is_id x q ≡ true → object_order p q ≡ Equal
 same_object x (object.Id a) (object.Id b) is also =
-    let same : a.number ≡ b.number = same_number a.number x is ∙ sym (same_number b.number x also) in
+    let same : a.number ≡ b.number = eqb-true a.number x is ∙ sym (eqb-true b.number x also) in
     grind (arith, nat_tests)
 same_object x (object.Name a) q is also = absurd cc
 same_object x (object.Text a) q is also = absurd cc
 same_object x (object.Id a) (object.Name b) is also = absurd cc
 same_object x (object.Id a) (object.Text b) is also = absurd cc
 
-first_decides : (o rest : Ordering) → rest ≡ Equal → ordering_then o rest ≡ Less → o ≡ Less
-first_decides Less rest is h = refl
-first_decides Equal rest is h = let both : Equal ≡ Less = sym is ∙ h in absurd cc
-first_decides Greater rest is h = absurd cc
-
 -- of two statements that name one thing by one property the lesser has the lesser subject
 subject_decides : (k : KnownProp) (x : ℕ) (s t : Statement) → is_naming k x s ≡ true → is_naming k x t ≡ true → statement_order s t ≡ Less → nat_cmp s.subject.number t.subject.number ≡ Less
 subject_decides k x s t is also less =
-    first_decides (nat_cmp s.subject.number t.subject.number) _
-    (rw (same_prop k s.prop t.prop (both_left (is_by k s) _ is) (both_left (is_by k t) _ also)) (same_object x s.object t.object (both_right (is_by k s) _ is) (both_right (is_by k t) _ also))) less
+    then_first (nat_cmp s.subject.number t.subject.number) _
+    (rw (same_prop k s.prop t.prop (and_first (is_by k s) _ is) (and_first (is_by k t) _ also)) (same_object x s.object t.object (and_second (is_by k s) _ is) (and_second (is_by k t) _ also))) less
 
 less_one : (k : KnownProp) (x : ℕ) (s t : Statement) (kept : List Statement) (b : Bool) → (b ≡ true → nat_cmp s.subject.number t.subject.number ≡ Less)
     → AllByRecursion (λ n. nat_cmp s.subject.number n ≡ Less) (map subject_number kept) → AllByRecursion (λ n. nat_cmp s.subject.number n ≡ Less) (map subject_number (cond b (t ∷ kept) kept))

@@ -1,8 +1,9 @@
 -- The sides of an item: whose terminals they are, and where they stand.
 use Rattle.std.proofs.Common.{◌≡◌, ◌⊎◌, ℕ, inl, inr, [], ◌∷◌, true, IsTrue, Some, Contains, refl, ap, subst}
+use Rattle.plain_laws.proofs.Members.{Among, contains_among, map_among}
+use Rattle.plain_laws.proofs.Numbers.{equal_itself}
+use Rattle.plain_laws.proofs.Tests.{among_any}
 use Rattle.cim_words.specs.declared.identifier.Id.{Id}
-use Rattle.cim_model.proofs.ListMembers.{Among, among_any, contains_among, map_among}
-use Rattle.cim_model.proofs.Runs.{number_itself}
 use Rattle.room_words.specs.Items.{anchors, item_id, item_place, item_terms, makes, own_places, standing, term_in}
 use Rattle.room_words.specs.Terms.{same_anchor}
 use Rattle.room_words.specs.declared.anchor.Anchor.{Anchor}
@@ -18,34 +19,34 @@ pub record IsSideOf (one : TempItem) (t : Term) : Type 0 where
   pub number : ℕ
   pub key : t.key ≡ key.Side number
 
-pub side_of : (one : TempItem) (s : Anchor × Term) → Among (standing one) s → IsSideOf one s.1
-side_of (item.Cut id segment length is_open) s (inl is) = subst (λ (s : Anchor × Term). IsSideOf (item.Cut id segment length is_open) s.1) is (record { owner = refl; number = 1; key = refl })
-side_of (item.Cut id segment length is_open) s (inr (inl is)) = subst (λ (s : Anchor × Term). IsSideOf (item.Cut id segment length is_open) s.1) is (record { owner = refl; number = 2; key = refl })
-side_of (item.Cut id segment length is_open) s (inr (inr there)) = absurd there
-side_of (item.Clamp id segment length) s (inl is) = subst (λ (s : Anchor × Term). IsSideOf (item.Clamp id segment length) s.1) is (record { owner = refl; number = 1; key = refl })
-side_of (item.Clamp id segment length) s (inr there) = absurd there
-side_of (item.Jumper id first second phases is_open) s (inl is) = subst (λ (s : Anchor × Term). IsSideOf (item.Jumper id first second phases is_open) s.1) is (record { owner = refl; number = 1; key = refl })
-side_of (item.Jumper id first second phases is_open) s (inr (inl is)) = subst (λ (s : Anchor × Term). IsSideOf (item.Jumper id first second phases is_open) s.1) is (record { owner = refl; number = 2; key = refl })
-side_of (item.Jumper id first second phases is_open) s (inr (inr there)) = absurd there
-side_of (item.Ground id at phases) s (inl is) = subst (λ (s : Anchor × Term). IsSideOf (item.Ground id at phases) s.1) is (record { owner = refl; number = 1; key = refl })
-side_of (item.Ground id at phases) s (inr there) = absurd there
+pub standing_is_side : (one : TempItem) (s : Anchor × Term) → Among (standing one) s → IsSideOf one s.1
+standing_is_side (item.Cut id segment length is_open) s (inl is) = subst (λ (s : Anchor × Term). IsSideOf (item.Cut id segment length is_open) s.1) is (record { owner = refl; number = 1; key = refl })
+standing_is_side (item.Cut id segment length is_open) s (inr (inl is)) = subst (λ (s : Anchor × Term). IsSideOf (item.Cut id segment length is_open) s.1) is (record { owner = refl; number = 2; key = refl })
+standing_is_side (item.Cut id segment length is_open) s (inr (inr there)) = absurd there
+standing_is_side (item.Clamp id segment length) s (inl is) = subst (λ (s : Anchor × Term). IsSideOf (item.Clamp id segment length) s.1) is (record { owner = refl; number = 1; key = refl })
+standing_is_side (item.Clamp id segment length) s (inr there) = absurd there
+standing_is_side (item.Jumper id first second phases is_open) s (inl is) = subst (λ (s : Anchor × Term). IsSideOf (item.Jumper id first second phases is_open) s.1) is (record { owner = refl; number = 1; key = refl })
+standing_is_side (item.Jumper id first second phases is_open) s (inr (inl is)) = subst (λ (s : Anchor × Term). IsSideOf (item.Jumper id first second phases is_open) s.1) is (record { owner = refl; number = 2; key = refl })
+standing_is_side (item.Jumper id first second phases is_open) s (inr (inr there)) = absurd there
+standing_is_side (item.Ground id at phases) s (inl is) = subst (λ (s : Anchor × Term). IsSideOf (item.Ground id at phases) s.1) is (record { owner = refl; number = 1; key = refl })
+standing_is_side (item.Ground id at phases) s (inr there) = absurd there
 
 pub item_term_side : (one : TempItem) (t : Term) → Among (item_terms one) t → IsSideOf one t
-item_term_side one t there = let s = map_among term_in (standing one) t there in subst (IsSideOf one) s.2 (side_of one s.0 s.1)
+item_term_side one t there = let s = map_among term_in (standing one) t there in subst (IsSideOf one) s.2 (standing_is_side one s.0 s.1)
 
 -- a side stands where its item says
 
-pub place_stated : (one : TempItem) (s : Anchor × Term) → Among (standing one) s → item_place one s.1 ≡ Some s.0
-place_stated (item.Cut id segment length is_open) s (inl is) = subst (λ (s : Anchor × Term). item_place (item.Cut id segment length is_open) s.1 ≡ Some s.0) is (rw (number_itself id.number) refl)
-place_stated (item.Cut id segment length is_open) s (inr (inl is)) = subst (λ (s : Anchor × Term). item_place (item.Cut id segment length is_open) s.1 ≡ Some s.0) is (rw (number_itself id.number) refl)
-place_stated (item.Cut id segment length is_open) s (inr (inr there)) = absurd there
-place_stated (item.Clamp id segment length) s (inl is) = subst (λ (s : Anchor × Term). item_place (item.Clamp id segment length) s.1 ≡ Some s.0) is (rw (number_itself id.number) refl)
-place_stated (item.Clamp id segment length) s (inr there) = absurd there
-place_stated (item.Jumper id first second phases is_open) s (inl is) = subst (λ (s : Anchor × Term). item_place (item.Jumper id first second phases is_open) s.1 ≡ Some s.0) is (rw (number_itself id.number) refl)
-place_stated (item.Jumper id first second phases is_open) s (inr (inl is)) = subst (λ (s : Anchor × Term). item_place (item.Jumper id first second phases is_open) s.1 ≡ Some s.0) is (rw (number_itself id.number) refl)
-place_stated (item.Jumper id first second phases is_open) s (inr (inr there)) = absurd there
-place_stated (item.Ground id at phases) s (inl is) = subst (λ (s : Anchor × Term). item_place (item.Ground id at phases) s.1 ≡ Some s.0) is (rw (number_itself id.number) refl)
-place_stated (item.Ground id at phases) s (inr there) = absurd there
+pub standing_states_place : (one : TempItem) (s : Anchor × Term) → Among (standing one) s → item_place one s.1 ≡ Some s.0
+standing_states_place (item.Cut id segment length is_open) s (inl is) = subst (λ (s : Anchor × Term). item_place (item.Cut id segment length is_open) s.1 ≡ Some s.0) is (rw (equal_itself id.number) refl)
+standing_states_place (item.Cut id segment length is_open) s (inr (inl is)) = subst (λ (s : Anchor × Term). item_place (item.Cut id segment length is_open) s.1 ≡ Some s.0) is (rw (equal_itself id.number) refl)
+standing_states_place (item.Cut id segment length is_open) s (inr (inr there)) = absurd there
+standing_states_place (item.Clamp id segment length) s (inl is) = subst (λ (s : Anchor × Term). item_place (item.Clamp id segment length) s.1 ≡ Some s.0) is (rw (equal_itself id.number) refl)
+standing_states_place (item.Clamp id segment length) s (inr there) = absurd there
+standing_states_place (item.Jumper id first second phases is_open) s (inl is) = subst (λ (s : Anchor × Term). item_place (item.Jumper id first second phases is_open) s.1 ≡ Some s.0) is (rw (equal_itself id.number) refl)
+standing_states_place (item.Jumper id first second phases is_open) s (inr (inl is)) = subst (λ (s : Anchor × Term). item_place (item.Jumper id first second phases is_open) s.1 ≡ Some s.0) is (rw (equal_itself id.number) refl)
+standing_states_place (item.Jumper id first second phases is_open) s (inr (inr there)) = absurd there
+standing_states_place (item.Ground id at phases) s (inl is) = subst (λ (s : Anchor × Term). item_place (item.Ground id at phases) s.1 ≡ Some s.0) is (rw (equal_itself id.number) refl)
+standing_states_place (item.Ground id at phases) s (inr there) = absurd there
 
 -- it stands at a place that the item makes, or at an anchor
 made : (one : TempItem) (place : Anchor) → IsTrue (same_anchor place place) → Among (own_places one) place → makes place one ≡ true

@@ -2,9 +2,10 @@
 use Rattle.std.proofs.Common.{◌≡◌, ℕ, ◌+◌, ◌*◌, ◌/◌, ◌^◌, ◌≤◌, List, length, ◌++◌, Bool, true, false, if◌then◌else◌, ◌&&◌, ◌==◌, Option, Some, None, refl, subst, arith}
 use Rattle.std.specs.Prelude.{nat_le, nat_lt}
 use Rattle.std.proofs.Math.Nat.{div-le_of_le-mul}
-use Rattle.std.proofs.lemmas.Bool.Decides.{nat_tests}
 use Rattle.std.proofs.lemmas.Nat.{pow-add}
 use Rattle.std.proofs.lemmas.Option.{same_Some}
+use Rattle.std.proofs.lemmas.Bool.{leb-true}
+use Rattle.plain_laws.proofs.Options.{if_then_some}
 use Rattle.cim_words.specs.Limits.{most_length}
 use Rattle.cim_words.specs.Length.{Scale, after_digits, after_fraction, digits_at, fraction_at, length_of, millimetres, minus, scale_of, scaled, without_sign}
 use Rattle.cim_words.specs.PhaseParts.{begins_with}
@@ -12,14 +13,6 @@ use Rattle.cim_words.specs.Values.{number_of}
 use Rattle.cim_words.specs.declared.object.Object.{Object}
 use Rattle.cim_words.specs.declared.object.Object.TheVariants as object
 use Rattle.cim_model.specs.Values.{length_said}
-
--- a value that is there where a test is passed
-of_test : (b : Bool) (o : Option ℕ) (n : ℕ) → (if b then o else None) ≡ Some n → o ≡ Some n
-of_test true o n is = is
-of_test false o n is = absurd cc
-
-within_test : (a b : ℕ) → nat_le a b ≡ true → a ≤ b
-within_test a b is = grind (arith, nat_tests)
 
 -- at most so many metres are at most so many millimetres
 within_metres : (number power divisor : ℕ) → number * power ≤ 1000000000 * divisor → number * (power * 1000) / divisor ≤ most_length
@@ -30,7 +23,7 @@ measured : (number up down n : ℕ) (b : Bool) → nat_le (number * 10 ^ up) (10
     → (if b then Some (number * 10 ^ (up + 3) / 10 ^ down) else None) ≡ Some n → n ≤ most_length
 measured number up down n true within is =
     let power : 10 ^ (up + 3) ≡ 10 ^ up * 1000 = pow-add 10 up 3 in
-    let least : number * 10 ^ (up + 3) / 10 ^ down ≤ most_length = rw power (within_metres number (10 ^ up) (10 ^ down) (within_test _ _ within)) in
+    let least : number * 10 ^ (up + 3) / 10 ^ down ≤ most_length = rw power (within_metres number (10 ^ up) (10 ^ down) (leb-true _ _ within)) in
     subst (λ (k : ℕ). k ≤ most_length) (same_Some (number * 10 ^ (up + 3) / 10 ^ down) n is) least
 measured number up down n false within is = absurd cc
 
@@ -61,7 +54,7 @@ unfolding length_of
 length_within text n is =
     let rest = after_digits (without_sign text) in
     let digits = digits_at (without_sign text) ++ fraction_at rest in
-    scaled_within (begins_with minus text) digits (length (fraction_at rest)) n (scale_of (after_fraction rest)) (of_test (nat_lt 0 (length digits) && nat_le (length digits) 30) _ n is)
+    scaled_within (begins_with minus text) digits (length (fraction_at rest)) n (scale_of (after_fraction rest)) (if_then_some (nat_lt 0 (length digits) && nat_le (length digits) 30) _ n is).1
 
 pub said_within : (o : Object) (n : ℕ) → length_said o ≡ Some n → n ≤ most_length
 said_within (object.Text text) n is = length_within text n is

@@ -1,9 +1,14 @@
 -- The marks on the segments of a live network are marks of a line, and stand on it.
-use Rattle.std.proofs.Common.{◌≡◌, ◌⊎◌, ℕ, suc, ◌≤◌, inl, inr, List, [], ◌∷◌, ◌++◌, map, length, Bool, true, false, ◌||◌, cond, nat_eq, Option, Some, None, is_some, option_map, unwrap_or, refl, ap, sym, ◌∙◌, subst, arith, append-nil}
-use Rattle.std.specs.List.{All, AllPairs, AllByRecursion, IsDistinct, filter, filter_map, cons_option}
-use Rattle.std.proofs.lemmas.Bool.Decides.{nat_tests}
+use Rattle.std.proofs.Common.{◌≡◌, ◌⊎◌, ℕ, ◌≤◌, inl, inr, List, [], ◌∷◌, ◌++◌, map, length, Bool, true, false, ◌||◌, cond, nat_eq, Option, Some, None, is_some, option_map, unwrap_or, refl, ap, sym, ◌∙◌, subst, arith, append-nil}
+use Rattle.std.specs.List.{AllPairs, IsDistinct, filter, filter_map, cons_option}
 use Rattle.std.proofs.lemmas.List.Kept.{AllPairs-cons}
 use Rattle.std.proofs.lemmas.Option.{same_Some}
+use Rattle.std.proofs.lemmas.Bool.{and_from, eqb-false, or_left}
+use Rattle.plain_laws.proofs.Each.{all_from_among, each_read}
+use Rattle.plain_laws.proofs.Members.{Among, among_contained, among_either, among_filter_passes, contains_among, filter_among, filter_map_among, map_among}
+use Rattle.plain_laws.proofs.Options.{if_some}
+use Rattle.plain_laws.proofs.Pairs.{pairs_append}
+use Rattle.plain_laws.proofs.Tests.{among_any, any_among}
 use Rattle.cim_words.specs.Limits.{most_length}
 use Rattle.cim_words.specs.Groups.{is_equipment_class, is_passing, is_segment, is_switch, is_transformer}
 use Rattle.cim_words.specs.declared.class.Class.{Class}
@@ -15,14 +20,10 @@ use Rattle.cim_model.specs.Marks.{is_item_on, is_on, item_mark, item_marks, mark
 use Rattle.cim_model.specs.Model.{is_of, is_subject, subjects, types}
 use Rattle.cim_model.specs.Network.{is_equipment, segment_of}
 use Rattle.cim_model.specs.Values.{number_of_id}
-use Rattle.cim_model.proofs.ListMembers.{Among, among_any, among_contained, among_either, any_among, contains_among, filter_among, filter_map_among, filter_passes, map_among}
-use Rattle.cim_model.proofs.MarkLists.{are_marks, is_this}
-use Rattle.cim_model.proofs.MarkPlaces.{mark_within}
-use Rattle.cim_model.proofs.Marks.{on_segment, segment_on_none}
-use Rattle.cim_model.proofs.OverlayItems.{IsLive, found_item, if_some, item_found, item_stands, no_item, says_item, says_other}
-use Rattle.cim_model.proofs.Pairs.{among_index}
-use Rattle.cim_model.proofs.Runs.{or_left}
-use Rattle.cim_model.proofs.SaidLemmas.{both, class_subject}
+use Rattle.cim_model.proofs.MarkLists.{are_marks, some_number_is}
+use Rattle.cim_model.proofs.Marks.{on_segment, segment_on_none, mark_within}
+use Rattle.cim_model.proofs.OverlayItems.{IsLive, found_item_is_listed, item_found, item_stands, no_item, says_item, says_other}
+use Rattle.cim_model.proofs.SaidLemmas.{of_class_is_subject}
 use Rattle.cim_model.proofs.SubjectLists.{listed_subject}
 use Rattle.room_words.specs.Items.{item_id, item_length, item_number}
 use Rattle.room_words.specs.Overlay.{item_of}
@@ -36,13 +37,13 @@ use Rattle.segment_cuts.specs.declared.mark.Mark.{Mark}
 
 segment_conducts : (m : List Statement) (o : Overlay) (x : ℕ) → IsLive m o → is_of m is_segment x ≡ true → conduction m o x ≡ PassesAlong
 segment_conducts m o x live segment =
-    says_other o x item_conduction (class_conduction m x) (no_item m o x live (class_subject m is_segment x segment)) ∙ rw segment refl
+    says_other o x item_conduction (class_conduction m x) (no_item m o x live (of_class_is_subject m is_segment x segment)) ∙ rw segment refl
 
 stands_if : (m : List Statement) (o : Overlay) (x y : ℕ) (found : Option TempItem) → IsLive m o → item_of o y ≡ found → unwrap_or (option_map item_segment_number found) (segment_of m y) ≡ Some x
     → is_of m is_segment x ≡ true
 stands_if m o x y None live is on = (on_segment m x y live.faultless on).0
 stands_if m o x y (Some one) live is on =
-    if_some (λ (x : ℕ). is_of m is_segment x ≡ true) (item_segment_number one) x on (item_stands m o one live (found_item o y one is).0).segment
+    if_some (λ (x : ℕ). is_of m is_segment x ≡ true) (item_segment_number one) x on (item_stands m o one live (found_item_is_listed o y one is).0).segment
 
 pub on_line : (m : List Statement) (o : Overlay) (x y : ℕ) → IsLive m o → stands_on m o y ≡ Some x → conduction m o x ≡ PassesAlong
 on_line m o x y live on = segment_conducts m o x live (stands_if m o x y (item_of o y) live refl on)
@@ -67,7 +68,7 @@ segment_equipment _ segment = absurd cc
 segment_is : (m : List Statement) (x : ℕ) → is_of m is_segment x ≡ true → is_equipment m x ≡ true
 segment_is m x segment =
     let c = any_among is_segment (types m x) segment in
-    both (is_subject m x) _ (class_subject m is_segment x segment)
+    and_from (is_subject m x) _ (of_class_is_subject m is_segment x segment)
     (or_left (is_of m is_equipment_class x) _ (among_any is_equipment_class (types m x) c.0 c.1 (segment_equipment c.0 c.2)))
 
 line_if : (m : List Statement) (o : Overlay) (x : ℕ) (found : Option TempItem) → IsLive m o → item_of o x ≡ found → unwrap_or (option_map item_conduction found) (class_conduction m x) ≡ PassesAlong
@@ -102,7 +103,7 @@ model_mark m x found there =
       subject = y.0;
       is = y.2;
       listed = listed_subject m y.0 (contains_among (subjects m) y.0 (filter_among (is_on m x) (subjects m) y.0 y.1));
-      on = is_this x (segment_of m y.0) (filter_passes (is_on m x) (subjects m) y.0 y.1);
+      on = some_number_is x (segment_of m y.0) (among_filter_passes (is_on m x) (subjects m) y.0 y.1);
     }
 
 mark_of_item : (o : Overlay) (x : ℕ) (found : Mark) → Among (item_marks o x) found → IsItemMark o x found
@@ -112,7 +113,7 @@ mark_of_item o x found there =
       one = one.0;
       is = one.2;
       listed = filter_among (is_item_on x) o.items one.0 one.1;
-      on = is_this x (item_segment_number one.0) (filter_passes (is_item_on x) o.items one.0 one.1);
+      on = some_number_is x (item_segment_number one.0) (among_filter_passes (is_item_on x) o.items one.0 one.1);
     }
 
 pub mark_is : (m : List Statement) (o : Overlay) (x : ℕ) (found : Mark) → Among (marks_on m o x) found → IsModelMark m x found ⊎ IsItemMark o x found
@@ -121,11 +122,12 @@ mark_is m o x found there = elim (among_either (marks_of m x) (item_marks o x) f
   | inr of_item ↦ inr (mark_of_item o x found of_item)
 ]
 
-marked_id : (one : TempItem) (found : Mark) → item_mark one ≡ Some found → item_id one ≡ found.id
-marked_id (item.Cut id segment length is_open) found is = ap (λ (m : Mark). m.id) (same_Some _ found is)
-marked_id (item.Clamp id segment length) found is = ap (λ (m : Mark). m.id) (same_Some _ found is)
-marked_id (item.Jumper id first second phases is_open) found is = absurd cc
-marked_id (item.Ground id at phases) found is = absurd cc
+-- the mark of an item has its identifier
+pub mark_has_item_id : (one : TempItem) (found : Mark) → item_mark one ≡ Some found → item_id one ≡ found.id
+mark_has_item_id (item.Cut id segment length is_open) found is = ap (λ (m : Mark). m.id) (same_Some _ found is)
+mark_has_item_id (item.Clamp id segment length) found is = ap (λ (m : Mark). m.id) (same_Some _ found is)
+mark_has_item_id (item.Jumper id first second phases is_open) found is = absurd cc
+mark_has_item_id (item.Ground id at phases) found is = absurd cc
 
 marked_length : (one : TempItem) (found : Mark) → item_mark one ≡ Some found → item_length one ≡ found.length.mm
 marked_length (item.Cut id segment length is_open) found is = ap (λ (m : Mark). m.length.mm) (same_Some _ found is)
@@ -140,7 +142,7 @@ mark_on m o x found live (inl of_model) =
     subst (λ (one : Mark). stands_on m o one.id.number ≡ Some x) of_model.is
     (says_other o of_model.subject item_segment_number (segment_of m of_model.subject) (no_item m o of_model.subject live of_model.listed) ∙ of_model.on)
 mark_on m o x found live (inr of_item) =
-    subst (λ (id : Id). stands_on m o id.number ≡ Some x) (marked_id of_item.one found of_item.is)
+    subst (λ (id : Id). stands_on m o id.number ≡ Some x) (mark_has_item_id of_item.one found of_item.is)
     (says_item o (item_number of_item.one) of_item.one item_segment_number (segment_of m (item_number of_item.one)) (item_found m o of_item.one live of_item.listed) ∙ of_item.on)
 
 pub mark_stands : (m : List Statement) (o : Overlay) (x : ℕ) (id : Id) (divides : Bool) → IsLive m o → HasMark (marks_on m o x) id divides → stands_on m o id.number ≡ Some x
@@ -148,9 +150,6 @@ mark_stands m o x id divides live (found, there, is, divided) =
     subst (λ (id : Id). stands_on m o id.number ≡ Some x) is (mark_on m o x found live (mark_is m o x found (among_contained (marks_on m o x) found there)))
 
 -- ---- they are marks of a line
-
-all_of : {X : Type 0} (P : X → Type 0) (xs : List X) → ((x : X) → Among xs x → P x) → All P xs
-all_of P xs each k d below = each _ (among_index xs k d below)
 
 lies_within : (m : List Statement) (o : Overlay) (x : ℕ) (found : Mark) → IsLive m o → IsModelMark m x found ⊎ IsItemMark o x found → found.length.mm ≤ most_length
 lies_within m o x found live (inl of_model) = subst (λ (one : Mark). one.length.mm ≤ most_length) of_model.is (mark_within m of_model.subject)
@@ -162,14 +161,6 @@ lies_within m o x found live (inr of_item) =
 abbrev OfOther : Mark → Mark → Type 0
 OfOther a b = ¬ (a.id ≡ b.id)
 
-number_apart : (a b : ℕ) → nat_eq a b ≡ false → a ≡ b → ⊥
-number_apart a b apart same = grind (arith, nat_tests)
-
-later_apart : (n : ℕ) (items : List TempItem) (one : TempItem) → AllByRecursion (λ (k : ℕ). nat_eq n k ≡ false) (map item_number items) → Among items one → n ≡ item_number one → ⊥
-later_apart n [] one apart there same = absurd there
-later_apart n (y ∷ items) one apart (inl is) same = number_apart n (item_number y) apart.0 (same ∙ sym (ap item_number is))
-later_apart n (y ∷ items) one apart (inr there) same = later_apart n items one apart.1 there same
-
 marks_of_items : ℕ → List TempItem → List Mark
 marks_of_items x items = filter_map item_mark (filter (is_item_on x) items)
 
@@ -178,9 +169,9 @@ head_mark : (x : ℕ) (one : TempItem) (items : List TempItem) (found : Option M
 unfolding marks_of_items
 head_mark x one items None is apart rest = rest
 head_mark x one items (Some found) is apart rest =
-    AllPairs-cons OfOther found (marks_of_items x items) (all_of (OfOther found) (marks_of_items x items) (λ other there same.
+    AllPairs-cons OfOther found (marks_of_items x items) (all_from_among (OfOther found) (marks_of_items x items) (λ other there same.
     let from = filter_map_among item_mark (filter (is_item_on x) items) other there in
-    apart from.0 (filter_among (is_item_on x) items from.0 from.1) (ap number_of_id (marked_id one found is ∙ same ∙ sym (marked_id from.0 other from.2))))) rest
+    apart from.0 (filter_among (is_item_on x) items from.0 from.1) (ap number_of_id (mark_has_item_id one found is ∙ same ∙ sym (mark_has_item_id from.0 other from.2))))) rest
 
 next_mark : (x : ℕ) (one : TempItem) (items : List TempItem) (b : Bool) → ((other : TempItem) → Among items other → item_number one ≡ item_number other → ⊥)
     → AllPairs OfOther (marks_of_items x items) → AllPairs OfOther (filter_map item_mark (cond b (one ∷ filter (is_item_on x) items) (filter (is_item_on x) items)))
@@ -191,31 +182,18 @@ next_mark x one items false apart rest = rest
 items_differ : (x : ℕ) (items : List TempItem) → IsDistinct nat_eq (map item_number items) → AllPairs OfOther (marks_of_items x items)
 unfolding IsDistinct marks_of_items
 items_differ x [] distinct = λ i j d less below. absurd (omega arith)
-items_differ x (one ∷ items) distinct = next_mark x one items (is_item_on x one) (λ other there same. later_apart (item_number one) items other distinct.0 there same) (items_differ x items distinct.1)
-
-pairs_end_to_end : (xs ys : List Mark) → AllPairs OfOther xs → AllPairs OfOther ys → ((a b : Mark) → Among xs a → Among ys b → OfOther a b) → AllPairs OfOther (xs ++ ys)
-pairs_end_to_end [] ys first second across = second
-pairs_end_to_end (x ∷ xs) ys first second across =
-    AllPairs-cons OfOther x (xs ++ ys) (all_of (OfOther x) (xs ++ ys) (λ other there. elim (among_either xs ys other there) [
-      | inl here ↦ from_first x xs first other here
-      | inr later ↦ across x other (inl refl) later
-    ])) (pairs_end_to_end xs ys (λ i j d less below. first (suc i) (suc j) d (omega arith) (omega arith)) second (λ a b here there. across a b (inr here) there))
-  where
-    from_first : (x : Mark) (xs : List Mark) → AllPairs OfOther (x ∷ xs) → (other : Mark) → Among xs other → OfOther x other
-    from_first x xs pairs other there =
-        let at = contains_among xs other there in
-        subst (OfOther x) at.2 (pairs 0 (suc at.0) other (omega arith) (omega (arith, at.1)))
+items_differ x (one ∷ items) distinct = next_mark x one items (is_item_on x one) (λ other there. eqb-false (item_number one) (item_number other) (each_read (λ n. nat_eq (item_number one) n ≡ false) item_number items other distinct.0 there)) (items_differ x items distinct.1)
 
 live_apart : (m : List Statement) (o : Overlay) (x : ℕ) (a b : Mark) → IsLive m o → IsModelMark m x a → IsItemMark o x b → OfOther a b
 live_apart m o x a b live of_model of_item same =
-    let number : of_model.subject ≡ item_number of_item.one = ap (λ (one : Mark). one.id.number) of_model.is ∙ ap number_of_id (same ∙ sym (marked_id of_item.one b of_item.is)) in
+    let number : of_model.subject ≡ item_number of_item.one = ap (λ (one : Mark). one.id.number) of_model.is ∙ ap number_of_id (same ∙ sym (mark_has_item_id of_item.one b of_item.is)) in
     let fresh : is_subject m of_model.subject ≡ false = ap (is_subject m) number ∙ (item_stands m o of_item.one live of_item.listed).identifier in
     let both : true ≡ false = sym of_model.listed ∙ fresh in
     cc
 
 -- the first item that stands on a segment, if one does
 some_item : (x : ℕ) (items : List TempItem) → (filter_map item_mark (filter (is_item_on x) items) ≡ []) ⊎ ((one : TempItem) × Among items one × (item_segment_number one ≡ Some x))
-some_item x items = some_of (filter (is_item_on x) items) (λ one there. (filter_among (is_item_on x) items one there, is_this x (item_segment_number one) (filter_passes (is_item_on x) items one there)))
+some_item x items = some_of (filter (is_item_on x) items) (λ one there. (filter_among (is_item_on x) items one there, some_number_is x (item_segment_number one) (among_filter_passes (is_item_on x) items one there)))
   where
     some_of : (kept : List TempItem) → ((one : TempItem) → Among kept one → Among items one × (item_segment_number one ≡ Some x))
         → (filter_map item_mark kept ≡ []) ⊎ ((one : TempItem) × Among items one × (item_segment_number one ≡ Some x))
@@ -228,8 +206,8 @@ live_marks m o x live = elim (some_item x o.items) [
   | inl none ↦ subst AreMarks (sym (ap (λ (marks : List Mark). marks_of m x ++ marks) none ∙ append-nil (marks_of m x))) (are_marks m x live.faultless)
   | inr some ↦ (let stands = item_stands m o some.0 live some.1 in record {
     few = if_some _ (item_segment_number some.0) x some.2 stands.few;
-    within = all_of (λ (one : Mark). one.length.mm ≤ most_length) (marks_on m o x) (λ found there. lies_within m o x found live (mark_is m o x found there));
-    different = pairs_end_to_end (marks_of m x) (item_marks o x) (are_marks m x live.faultless).different (items_differ x o.items live.stands.identifiers)
+    within = all_from_among (λ (one : Mark). one.length.mm ≤ most_length) (marks_on m o x) (λ found there. lies_within m o x found live (mark_is m o x found there));
+    different = pairs_append OfOther (marks_of m x) (item_marks o x) (are_marks m x live.faultless).different (items_differ x o.items live.stands.identifiers)
         (λ a b here there. live_apart m o x a b live (model_mark m x a here) (mark_of_item o x b there));
     apart = if_some _ (item_segment_number some.0) x some.2 stands.apart;
   })

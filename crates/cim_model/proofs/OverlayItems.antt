@@ -1,14 +1,15 @@
 -- The items of an overlay that stands: each is found by its identifier, and nothing that the model speaks of is one.
-use Rattle.std.proofs.Common.{◌≡◌, ◌↔◌, ℕ, inl, inr, List, [], ◌∷◌, map, Bool, true, false, ◌==◌, cond, nat_eq, IsTrue, Option, Some, None, IfSome, find, refl, ap, sym, ◌∙◌, subst, arith}
-use Rattle.std.specs.List.{AllByRecursion, IsDistinct, flat_map}
-use Rattle.std.proofs.lemmas.Bool.Decides.{nat_tests}
-use Rattle.std.proofs.lemmas.Option.{same_Some}
+use Rattle.std.proofs.Common.{◌≡◌, ◌↔◌, ℕ, inl, inr, List, [], ◌∷◌, map, Bool, true, false, ◌==◌, cond, nat_eq, IsTrue, Option, Some, None, find, refl, ap, sym, ◌∙◌}
+use Rattle.std.specs.List.{IsDistinct}
+use Rattle.std.proofs.lemmas.Bool.{eqb-true}
+use Rattle.plain_laws.proofs.Each.{each_read}
+use Rattle.plain_laws.proofs.Members.{Among, contains_among}
+use Rattle.plain_laws.proofs.Numbers.{equal_itself}
+use Rattle.plain_laws.proofs.Options.{find_among}
 use Rattle.cim_words.specs.declared.statement.Statement.{Statement}
 use Rattle.cim_model.specs.Model.{is_subject}
 use Rattle.cim_model.specs.Profile.{IsFaultless}
 use Rattle.cim_model.specs.Stands.{ItemStands, Stands}
-use Rattle.cim_model.proofs.ListMembers.{Among, among_either, among_left, among_right, contains_among, find_among}
-use Rattle.cim_model.proofs.Runs.{number_itself, same_number}
 use Rattle.room_words.specs.Items.{item_number}
 use Rattle.room_words.specs.Overlay.{item_of, item_or}
 use Rattle.room_words.specs.Terms.{same_anchor, same_term}
@@ -26,18 +27,10 @@ pub record IsLive (m : List Statement) (o : Overlay) : Type 0 where
 
 -- ---- an item by its identifier
 
-pub found_item : (o : Overlay) (x : ℕ) (one : TempItem) → item_of o x ≡ Some one → Among o.items one × (item_number one ≡ x)
-found_item o x one found =
+pub found_item_is_listed : (o : Overlay) (x : ℕ) (one : TempItem) → item_of o x ≡ Some one → Among o.items one × (item_number one ≡ x)
+found_item_is_listed o x one found =
     let there = find_among (λ (other : TempItem). item_number other == x) o.items one found in
-    (there.0, same_number (item_number one) x there.1)
-
-flip : (m n : ℕ) → (m == n) ≡ nat_eq m n
-flip m n = grind (arith, nat_tests)
-
-all_among : {X : Type 0} (P : X → Type 0) (f : TempItem → X) (xs : List TempItem) (x : TempItem) → AllByRecursion P (map f xs) → Among xs x → P (f x)
-all_among P f [] x all there = absurd there
-all_among P f (y ∷ xs) x all (inl is) = subst (λ (z : TempItem). P (f z)) is all.0
-all_among P f (y ∷ xs) x all (inr there) = all_among P f xs x all.1 there
+    (there.0, eqb-true (item_number one) x there.1)
 
 find_here : (one : TempItem) (y : TempItem) (rest : Option TempItem) (b : Bool) → b ≡ true → y ≡ one → cond b (Some y) rest ≡ Some one
 find_here one y rest true passes is = ap (λ (z : TempItem). Some z) is
@@ -51,9 +44,9 @@ item_in : (items : List TempItem) (one : TempItem) → IsDistinct nat_eq (map it
 unfolding IsDistinct
 item_in [] one distinct there = absurd there
 item_in (y ∷ items) one distinct (inl is) =
-    find_here one y _ (item_number y == item_number one) (ap (λ (z : TempItem). item_number z == item_number one) is ∙ number_itself (item_number one)) is
+    find_here one y _ (item_number y == item_number one) (ap (λ (z : TempItem). item_number z == item_number one) is ∙ equal_itself (item_number one)) is
 item_in (y ∷ items) one distinct (inr there) =
-    find_later one y _ (item_number y == item_number one) (flip (item_number y) (item_number one) ∙ all_among (λ (n : ℕ). nat_eq (item_number y) n ≡ false) item_number items one distinct.0 there)
+    find_later one y _ (item_number y == item_number one) (each_read (λ (n : ℕ). nat_eq (item_number y) n ≡ false) item_number items one distinct.0 there)
     (item_in items one distinct.1 there)
 
 pub item_found : (m : List Statement) (o : Overlay) (one : TempItem) → IsLive m o → Among o.items one → item_of o (item_number one) ≡ Some one
@@ -67,7 +60,7 @@ item_stands m o one live there = live.stands.items one (contains_among o.items o
 no_item_if : (m : List Statement) (o : Overlay) (x : ℕ) (found : Option TempItem) → IsLive m o → item_of o x ≡ found → is_subject m x ≡ true → found ≡ None
 no_item_if m o x None live is subject = refl
 no_item_if m o x (Some one) live is subject =
-    let there = found_item o x one is in
+    let there = found_item_is_listed o x one is in
     let fresh : is_subject m x ≡ false = ap (is_subject m) (sym there.1) ∙ (item_stands m o one live there.0).identifier in
     absurd (let both : true ≡ false = sym subject ∙ fresh in cc)
 
@@ -84,20 +77,4 @@ says_other o x says other is = rw is refl
 
 -- ---- what some holds
 
-pub if_some : {X : Type 0} (P : X → Type 0) (found : Option X) (x : X) → found ≡ Some x → IfSome found P → P x
-if_some P None x is holds = absurd cc
-if_some P (Some y) x is holds = subst P (same_Some y x is) holds
-
 -- ---- what lists made of the elements of a list have
-
-pub among_flat_map : {X Y : Type 0} (f : X → List Y) (xs : List X) (x : X) (y : Y) → Among xs x → Among (f x) y → Among (flat_map f xs) y
-among_flat_map f [] x y there has = absurd there
-among_flat_map f (z ∷ xs) x y (inl is) has = among_left (f z) (flat_map f xs) y (subst (λ (w : _). Among (f w) y) (sym is) has)
-among_flat_map f (z ∷ xs) x y (inr there) has = among_right (f z) (flat_map f xs) y (among_flat_map f xs x y there has)
-
-pub flat_map_among : {X Y : Type 0} (f : X → List Y) (xs : List X) (y : Y) → Among (flat_map f xs) y → (x : X) × Among xs x × Among (f x) y
-flat_map_among f [] y there = absurd there
-flat_map_among f (z ∷ xs) y there = elim (among_either (f z) (flat_map f xs) y there) [
-  | inl here ↦ (z, inl refl, here)
-  | inr later ↦ (let from = flat_map_among f xs y later in (from.0, inr from.1, from.2))
-]

@@ -1,7 +1,12 @@
 -- What a subject's statements say, and which subjects name another.
-use Rattle.std.proofs.Common.{◌≡◌, ℕ, inl, inr, List, [], ◌∷◌, Bool, true, false, ◌&&◌, ◌==◌, cond, Option, Some, None, refl, ap, ◌∙◌, subst}
+use Rattle.std.proofs.Common.{◌≡◌, ℕ, inl, inr, List, [], ◌∷◌, Bool, true, false, ◌==◌, cond, Option, Some, None, refl, ap, ◌∙◌, subst}
 use Rattle.std.specs.List.{filter, filter_map}
 use Rattle.std.proofs.lemmas.Option.{same_Some}
+use Rattle.std.proofs.lemmas.Bool.{and_from, eqb-true, false_from_ne_true}
+use Rattle.plain_laws.proofs.Members.{Among, among_filter, among_filter_passes, among_map, filter_among, filter_map_among, map_among}
+use Rattle.plain_laws.proofs.Numbers.{equal_itself}
+use Rattle.plain_laws.proofs.Tests.{among_any, any_among}
+use Rattle.plain_laws.proofs.Truth.{and_first, and_second}
 use Rattle.cim_words.specs.declared.class.Class.{Class}
 use Rattle.cim_words.specs.declared.known_prop.KnownProp.{KnownProp}
 use Rattle.cim_words.specs.Properties as property
@@ -10,21 +15,6 @@ use Rattle.cim_words.specs.declared.object.Object.TheVariants as object
 use Rattle.cim_words.specs.declared.statement.Statement.{Statement}
 use Rattle.cim_model.specs.Model.{about, counts, id_said, is_about, is_by, is_id, is_naming, is_of, is_subject, class_named, naming, said, types}
 use Rattle.cim_model.specs.Network.{first, value_of}
-use Rattle.cim_model.proofs.ListMembers.{Among, among_any, among_filter, among_map, any_among, filter_among, filter_map_among, filter_passes, map_among}
-use Rattle.cim_model.proofs.Runs.{not_true, number_itself, same_number}
-
--- two tests that are both passed
-pub both : (a b : Bool) → a ≡ true → b ≡ true → (a && b) ≡ true
-both true b h g = g
-both false b h g = h
-
-pub both_left : (a b : Bool) → (a && b) ≡ true → a ≡ true
-both_left true b h = refl
-both_left false b h = h
-
-pub both_right : (a b : Bool) → (a && b) ≡ true → b ≡ true
-both_right true b h = h
-both_right false b h = absurd cc
 
 -- a statement says this of a subject by a property
 pub record IsSaid (m : List Statement) (x : ℕ) (k : KnownProp) (o : Object) : Type 0 where
@@ -41,8 +31,8 @@ said_by m x k o h =
     record {
       statement = from.0;
       stands = filter_among (is_about x) m from.0 own;
-      about = filter_passes (is_about x) m from.0 own;
-      by = filter_passes (is_by k) (filter (is_about x) m) from.0 from.1;
+      about = among_filter_passes (is_about x) m from.0 own;
+      by = among_filter_passes (is_by k) (filter (is_about x) m) from.0 from.1;
       says = from.2;
     }
 
@@ -57,12 +47,12 @@ said_subject m x k o h = let from = said_by m x k o h in among_any (is_about x) 
 
 -- to be this identifier is to say its number
 pub is_id_said : (x : ℕ) (o : Object) → is_id x o ≡ true → id_said o ≡ Some x
-is_id_said x (object.Id id) h = ap (λ (n : ℕ). Some n) (same_number id.number x h)
+is_id_said x (object.Id id) h = ap (λ (n : ℕ). Some n) (eqb-true id.number x h)
 is_id_said x (object.Name text) h = absurd cc
 is_id_said x (object.Text text) h = absurd cc
 
 pub id_said_is : (x : ℕ) (o : Object) → id_said o ≡ Some x → is_id x o ≡ true
-id_said_is x (object.Id id) h = ap (λ (n : ℕ). n == x) (same_Some id.number x h) ∙ number_itself x
+id_said_is x (object.Id id) h = ap (λ (n : ℕ). n == x) (same_Some id.number x h) ∙ equal_itself x
 id_said_is x (object.Name text) h = absurd cc
 id_said_is x (object.Text text) h = absurd cc
 
@@ -70,15 +60,15 @@ id_said_is x (object.Text text) h = absurd cc
 pub naming_says : (m : List Statement) (k : KnownProp) (x y : ℕ) → Among (naming m k x) y → (o : Object) × Among (said m y k) o × (id_said o ≡ Some x)
 naming_says m k x y h =
     let from = map_among (λ (s : Statement). s.subject.number) (filter (is_naming k x) m) y h in
-    let names = filter_passes (is_naming k x) m from.0 from.1 in
-    let about : is_about y from.0 ≡ true = ap (λ (n : ℕ). n == y) from.2 ∙ number_itself y in
-    (from.0.object, by_said m y k from.0 (filter_among (is_naming k x) m from.0 from.1) about (both_left _ _ names), is_id_said x from.0.object (both_right (is_by k from.0) _ names))
+    let names = among_filter_passes (is_naming k x) m from.0 from.1 in
+    let about : is_about y from.0 ≡ true = ap (λ (n : ℕ). n == y) from.2 ∙ equal_itself y in
+    (from.0.object, by_said m y k from.0 (filter_among (is_naming k x) m from.0 from.1) about (and_first _ _ names), is_id_said x from.0.object (and_second (is_by k from.0) _ names))
 
 pub says_naming : (m : List Statement) (k : KnownProp) (x y : ℕ) (o : Object) → Among (said m y k) o → id_said o ≡ Some x → Among (naming m k x) y
 says_naming m k x y o h is =
     let from = said_by m y k o h in
-    let names = both (is_by k from.statement) (is_id x from.statement.object) from.by (id_said_is x from.statement.object (ap id_said from.says ∙ is)) in
-    subst (Among (naming m k x)) (same_number from.statement.subject.number y from.about)
+    let names = and_from (is_by k from.statement) (is_id x from.statement.object) from.by (id_said_is x from.statement.object (ap id_said from.says ∙ is)) in
+    subst (Among (naming m k x)) (eqb-true from.statement.subject.number y from.about)
     (among_map (λ (s : Statement). s.subject.number) (filter (is_naming k x) m) from.statement (among_filter (is_naming k x) m from.statement from.stands names))
 
 -- what is of a class has a type
@@ -88,8 +78,8 @@ of_class m test x h =
     let from = filter_map_among class_named (said m x property.rdf_type) c.0 c.1 in
     (from.0, from.1)
 
-pub class_subject : (m : List Statement) (test : Class → Bool) (x : ℕ) → is_of m test x ≡ true → is_subject m x ≡ true
-class_subject m test x h = let type = of_class m test x h in said_subject m x property.rdf_type type.0 type.1
+pub of_class_is_subject : (m : List Statement) (test : Class → Bool) (x : ℕ) → is_of m test x ≡ true → is_subject m x ≡ true
+of_class_is_subject m test x h = let type = of_class m test x h in said_subject m x property.rdf_type type.0 type.1
 
 -- what is of one class passes just the tests that the class passes
 pub class_passes : (m : List Statement) (test : Class → Bool) (x : ℕ) (c : Class) → types m x ≡ c ∷ [] → is_of m test x ≡ true → test c ≡ true
@@ -102,10 +92,10 @@ class_passes m test x c is h =
     class_at p own found (inr none) passes = absurd none
 
 pub class_fails : (m : List Statement) (test : Class → Bool) (x : ℕ) (c : Class) → types m x ≡ c ∷ [] → test c ≡ false → is_of m test x ≡ false
-class_fails m test x c is fails = not_true (is_of m test x) (λ h. let passes = class_passes m test x c is h in absurd cc)
+class_fails m test x c is fails = false_from_ne_true (is_of m test x) (λ h. let passes = class_passes m test x c is h in absurd cc)
 
 -- a value that is read off what is said
-first_among : {X : Type 0} (xs : List X) (x : X) → first xs ≡ Some x → Among xs x
+pub first_among : {X : Type 0} (xs : List X) (x : X) → first xs ≡ Some x → Among xs x
 first_among [] x h = absurd cc
 first_among (y ∷ ys) x h = inl (same_Some y x h)
 

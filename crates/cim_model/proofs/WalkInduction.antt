@@ -1,6 +1,8 @@
 -- Laws of walks along links, for any points, links and starts.
-use Rattle.std.proofs.Common.{List, [], ◌∷◌, ◌++◌, refl, sym, subst}
-use Rattle.cim_model.specs.Reach.{Leads, Reaches}
+use Rattle.std.proofs.Common.{ℕ, List, [], ◌∷◌, ◌++◌, refl, sym, subst}
+use Rattle.cim_model.specs.Reach.{IsPoint, IsPointReached, IsStart, Leads, Linked, Reaches, Wiring}
+use Rattle.cim_words.specs.declared.phases.PhaseSet.{PhaseSet}
+use Rattle.room_words.specs.declared.term.Point.{Point}
 
 -- a list that leads to b leads one link further
 leads_step : {V : Type 0} (link : V → V → Type 0) (a : V) (cs : List V) (b c : V) → Leads link a cs b → link b c → Leads link a (cs ++ c ∷ []) c
@@ -35,3 +37,7 @@ reaches_pictured {W = W} Pictures link start link' start' starts links =
     (λ b c so_far next.
     let to = links b c so_far.0 so_far.1 next in
     (to.0, to.1, reaches_step link' start' so_far.0 to.0 so_far.2 to.2))
+
+-- what is reached is a point
+pub reached_is_point : (w : Wiring) (x : ℕ) (asked : PhaseSet) (a : Point) → IsPointReached w x asked a → IsPoint w a
+reached_is_point w x asked = reaches_induction (Linked w) (IsStart w x asked) (IsPoint w) (λ a start. start.point) (λ b c point link. link.to)

@@ -1,11 +1,8 @@
 pub mod Held
-pub mod Lists
+pub mod RowValues
 pub mod Names
-pub mod Parts
 pub mod PlaceLemmas
 pub mod PlaceOrder
-pub mod RowValues
-pub mod Stable
 pub mod Stages
 pub mod TypeRows
 pub mod RuleLemmas

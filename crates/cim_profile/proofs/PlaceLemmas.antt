@@ -1,9 +1,11 @@
 -- Places of marks, as the rows of a table that name segments give them.
-use Rattle.std.proofs.Common.{◌≡◌, ℕ, ◌+◌, ◌<◌, ◌≤◌, ◌==◌, List, [], ◌∷◌, ◌++◌, map, length, take, get_or, Bool, true, false, not, ◌&&◌, ◌||◌, refl, sym, ap, ◌∙◌}
+use Rattle.std.proofs.Common.{◌≡◌, ℕ, ◌+◌, ◌<◌, ◌≤◌, ◌==◌, List, ◌++◌, map, length, take, get_or, Bool, true, false, not, ◌&&◌, ◌||◌, refl, sym, ap, ◌∙◌}
 use Rattle.std.specs.Prelude.{nat_eq}
 use Rattle.std.specs.List.{filter, list_any}
-use Rattle.std.proofs.lemmas.List.{take_all}
+use Rattle.std.proofs.lemmas.List.{map-id, take_all}
 use Rattle.std.proofs.lemmas.List.Folds.{list_any-append, list_any_more}
+use Rattle.std.proofs.lemmas.Bool.{and_right}
+use Rattle.plain_laws.proofs.Tests.{any_and, any_map, any_map_filter, any_or, any_same, any_turned}
 use Rattle.cim_words.specs.declared.identifier.Id.{Id}
 use Rattle.cim_words.specs.declared.known_prop.KnownProp.{KnownProp}
 use Rattle.cim_words.specs.declared.length.Length.{Length}
@@ -19,8 +21,6 @@ use Rattle.cim_profile.specs.declared.mark_kind.MarkKind.{MarkKind}
 use Rattle.cim_profile.specs.declared.mark_kind.MarkKind.TheVariants.{Cut, Clamp}
 use Rattle.cim_profile.specs.declared.marks.Place.{Place}
 use Rattle.cim_profile.specs.declared.table.Row.{Row}
-use Rattle.cim_profile.proofs.Lists.{any_alike, any_said, any_read}
-use Rattle.cim_profile.proofs.RowValues.{map_itself}
 
 -- whether a mark passes a test at one of its lengths, if it is of a kind
 abbrev pub passes_at : (kept : ℕ → Bool) (lengths : ℕ → List ℕ) → (ℕ → ℕ → Bool) → ℕ → Bool
@@ -42,29 +42,16 @@ or_nothing : (a b : Bool) → b ≡ false → a ≡ (a || b)
 or_nothing true b h = refl
 or_nothing false b h = sym h
 
-and_not : (a b : Bool) → b ≡ false → (a && b) ≡ false
-and_not true b h = h
-and_not false b h = refl
-
 both : (a b c : Bool) → b ≡ true → (a && c) ≡ (a && (b && c))
 both a b c h = rw h refl
-
-no_one : {X : Type 0} (xs : List X) → list_any (λ x. false) xs ≡ false
-no_one [] = refl
-no_one (x ∷ xs) = no_one xs
-
--- a test that each element takes along
-along : {X : Type 0} (b : Bool) (p : X → Bool) (xs : List X) → list_any (λ x. b && p x) xs ≡ (b && list_any p xs)
-along true p xs = refl
-along false p xs = no_one xs
 
 -- one mark at some lengths
 here : (s : ℕ) (test : ℕ → ℕ → Bool) (segment mark : Id) (lengths : List Length) (spelled : List ℕ) → map mm_of lengths ≡ spelled
     → list_any (is_at s test) (map (place_at segment mark) lengths) ≡ (segment.number == s && list_any (λ n. test n mark.number) spelled)
 here s test segment mark lengths spelled same =
-    any_read (is_at s test) (place_at segment mark) lengths
-    ∙ along (segment.number == s) (λ (l : Length). test l.mm mark.number) lengths
-    ∙ ap (λ (b : Bool). segment.number == s && b) (sym (any_read (λ n. test n mark.number) mm_of lengths) ∙ ap (list_any (λ n. test n mark.number)) same)
+    any_map (is_at s test) (place_at segment mark) lengths
+    ∙ any_and (segment.number == s) (λ (l : Length). test l.mm mark.number) lengths
+    ∙ ap (λ (b : Bool). segment.number == s && b) (sym (any_map (λ n. test n mark.number) mm_of lengths) ∙ ap (list_any (λ n. test n mark.number)) same)
 
 -- one more row, whose mark is of another kind, or of this
 pub placing_past : (kept : ℕ → Bool) (lengths : ℕ → List ℕ) (rows : List (Row Id)) (i : ℕ) (d : Row Id) (places : List Place)
@@ -74,7 +61,7 @@ placing_past kept lengths rows i d places within other placing s test =
     let row : Row Id = get_or rows i d in
     let fails : passes_at kept lengths test row.value.number ≡ false = ap (λ (b : Bool). b && list_any (λ n. test n row.value.number) (lengths row.value.number)) other in
     placing s test
-    ∙ or_nothing (list_any (row_passes kept lengths s test) (take i rows)) (row_passes kept lengths s test row) (and_not (row.key.number == s) _ fails)
+    ∙ or_nothing (list_any (row_passes kept lengths s test) (take i rows)) (row_passes kept lengths s test row) (and_right (row.key.number == s) _ fails)
     ∙ sym (list_any_more (row_passes kept lengths s test) rows i d within)
 
 pub placing_more : (kept : ℕ → Bool) (lengths : ℕ → List ℕ) (rows : List (Row Id)) (i : ℕ) (d : Row Id) (places added : List Place) (own : List Length)
@@ -97,44 +84,30 @@ placing_all kept lengths k m rows i places all holds placing s test =
     let passes : ℕ → Bool = passes_at kept lengths test in
     placing s test
     ∙ ap (list_any (row_passes kept lengths s test)) (take_all i rows all)
-    ∙ sym (any_said (λ (id : Id). passes id.number) (λ (row : Row Id). row.value) (has_key s) rows)
-    ∙ sym (any_read passes number_of_id (values_at rows s))
+    ∙ sym (any_map_filter (λ (id : Id). passes id.number) (λ (row : Row Id). row.value) (has_key s) rows)
+    ∙ sym (any_map passes number_of_id (values_at rows s))
     ∙ ap (list_any passes) (holds s)
-    ∙ sym (any_said (λ y. list_any (λ n. test n y) (lengths y)) (λ (y : ℕ). y) kept (naming m k s))
-    ∙ ap (list_any (λ y. list_any (λ n. test n y) (lengths y))) (map_itself (filter kept (naming m k s)))
+    ∙ sym (any_map_filter (λ y. list_any (λ n. test n y) (lengths y)) (λ (y : ℕ). y) kept (naming m k s))
+    ∙ ap (list_any (λ y. list_any (λ n. test n y) (lengths y))) (map-id (filter kept (naming m k s)))
 
 -- ---- a place of another mark at one of some lengths
 
-four : (a b c d : Bool) → ((a || b) || (c || d)) ≡ ((a || c) || (b || d))
-four true b c d = refl
-four false true true d = refl
-four false true false d = refl
-four false false c d = refl
-
-any_or : {X : Type 0} (p q : X → Bool) (xs : List X) → list_any (λ x. p x || q x) xs ≡ (list_any p xs || list_any q xs)
-any_or p q [] = refl
-any_or p q (x ∷ xs) = ap (λ (b : Bool). (p x || q x) || b) (any_or p q xs) ∙ four (p x) (q x) (list_any p xs) (list_any q xs)
-
-turned : {X Y : Type 0} (f : X → Y → Bool) (xs : List X) (ys : List Y) → list_any (λ x. list_any (f x) ys) xs ≡ list_any (λ y. list_any (λ x. f x y) xs) ys
-turned f [] ys = sym (no_one ys)
-turned f (x ∷ xs) ys = ap (λ (b : Bool). list_any (f x) ys || b) (turned f xs ys) ∙ sym (any_or (f x) (λ y. list_any (λ x. f x y) xs) ys)
-
 one_other : (x : ℕ) (lengths own : List ℕ) (y : ℕ) → list_any (λ n. list_any (λ other. is_other n x other y) own) lengths ≡ (not (y == x) && share_one lengths own)
 one_other x lengths own y =
-    any_alike _ (λ n. not (y == x) && list_any (nat_eq n) own) (λ n. along (not (y == x)) (nat_eq n) own) lengths
-    ∙ along (not (y == x)) (λ n. list_any (nat_eq n) own) lengths
+    any_same _ (λ n. not (y == x) && list_any (nat_eq n) own) (λ n. any_and (not (y == x)) (nat_eq n) own) lengths
+    ∙ any_and (not (y == x)) (λ n. list_any (nat_eq n) own) lengths
 
 others : (m : List Statement) (k : MarkKind) (s x : ℕ) (lengths : List ℕ)
     → list_any (λ n. any_mark m k s (is_other n x)) lengths ≡ list_any (λ y. not (y == x) && share_one lengths (mark_lengths m k y)) (marks_of m k s)
 others m k s x lengths =
-    turned (λ n y. list_any (λ other. is_other n x other y) (mark_lengths m k y)) lengths (marks_of m k s)
-    ∙ any_alike _ _ (λ y. one_other x lengths (mark_lengths m k y) y) (marks_of m k s)
+    any_turned (λ n y. list_any (λ other. is_other n x other y) (mark_lengths m k y)) lengths (marks_of m k s)
+    ∙ any_same _ _ (λ y. one_other x lengths (mark_lengths m k y) y) (marks_of m k s)
 
 pub shared_by : (m : List Statement) (s x : ℕ) (lengths : List Length) (found : Length → Bool)
     → ((l : Length) → found l ≡ (any_mark m Cut s (is_other l.mm x) || any_mark m Clamp s (is_other l.mm x))) → list_any found lengths ≡ shares_place m x (map mm_of lengths) s
 shared_by m s x lengths found is =
-    any_alike found (λ (l : Length). by Cut l.mm || by Clamp l.mm) is lengths
-    ∙ sym (any_read (λ n. by Cut n || by Clamp n) mm_of lengths)
+    any_same found (λ (l : Length). by Cut l.mm || by Clamp l.mm) is lengths
+    ∙ sym (any_map (λ n. by Cut n || by Clamp n) mm_of lengths)
     ∙ any_or (by Cut) (by Clamp) (map mm_of lengths)
     ∙ rw (others m Cut s x (map mm_of lengths), others m Clamp s x (map mm_of lengths)) refl
   where

@@ -1,21 +1,33 @@
--- What is read from the values of rows.
-use Rattle.std.proofs.Common.{◌≡◌, ℕ, suc, ◌==◌, List, [], ◌∷◌, ◌++◌, map, length, Bool, true, false, cond, Option, Some, None, option_map, refl, sym, ap, ◌∙◌, arith}
-use Rattle.std.specs.List.{cons_option, filter, filter_map}
+-- What is read from the values of rows, and what is there among it.
+use Rattle.std.proofs.Common.{◌≡◌, List, [], ◌∷◌, map, Bool, ◌||◌, Option, Some, None, refl, ap, ◌∙◌, ℕ, suc, ◌==◌, ◌++◌, length, true, false, cond, option_map, sym, arith}
+use Rattle.std.specs.List.{cons_option, filter, filter_map, list_any}
 use Rattle.std.proofs.lemmas.Bool.{false≢true}
 use Rattle.std.proofs.lemmas.Bool.Decides.{nat_tests}
-use Rattle.cim_words.specs.declared.identifier.Id.{Id}
-use Rattle.cim_words.specs.declared.length.Length.{Length}
-use Rattle.cim_words.specs.declared.object.Object.{Object}
-use Rattle.cim_model.specs.Values.{as_length, length_said, mm_of, number_of_id}
-use Rattle.cim_profile.specs.Facts.{length_read, present}
-use Rattle.cim_model.specs.Model.{is_empty}
-use Rattle.cim_model.specs.Stated.{or_zero}
 use Rattle.cim_profile.specs.declared.table.Row.{Row}
-use Rattle.cim_profile.proofs.Lists.{filter_map_present}
+use Rattle.cim_model.specs.Stated.{or_zero}
+use Rattle.cim_model.specs.Model.{is_empty}
+use Rattle.cim_model.specs.Values.{as_length, length_said, mm_of, number_of_id}
+use Rattle.cim_words.specs.declared.object.Object.{Object}
+use Rattle.cim_words.specs.declared.length.Length.{Length}
+use Rattle.cim_words.specs.declared.identifier.Id.{Id}
+use Rattle.plain_laws.proofs.Tests.{any_map}
+use Rattle.cim_profile.specs.Facts.{is_present_and, length_read, present}
 
-pub map_itself : {X : Type 0} (xs : List X) → map (λ (x : X). x) xs ≡ xs
-map_itself [] = refl
-map_itself (x ∷ xs) = ap (λ (rest : List _). x ∷ rest) (map_itself xs)
+-- a test of what is there
+pub any_there : {Y : Type 0} (test : Y → Bool) (values : List (Option Y)) → list_any test (present values) ≡ list_any (is_present_and test) values
+any_there test [] = refl
+any_there test (None ∷ values) = any_there test values
+any_there test (Some y ∷ values) = ap (λ (r : Bool). test y || r) (any_there test values)
+
+pub any_present : {X Y : Type 0} (test : Y → Bool) (f : X → Option Y) (xs : List X) → list_any test (present (map f xs)) ≡ list_any (λ x. is_present_and test (f x)) xs
+any_present test f xs = any_there test (map f xs) ∙ any_map (is_present_and test) f xs
+
+-- what is there among what is read of the elements
+pub filter_map_present : {X Y : Type 0} (h : X → Option Y) (xs : List X) → filter_map h xs ≡ present (map h xs)
+filter_map_present h [] = refl
+filter_map_present h (x ∷ xs) = ap (cons_option (h x)) (filter_map_present h xs)
+
+-- ---- the values of rows
 
 seen_cons : {V W : Type 0} (sees : V → W) (o : Option V) (values : List V) (others : List W) → map sees values ≡ others → map sees (cons_option o values) ≡ cons_option (option_map sees o) others
 seen_cons sees None values others h = h

@@ -1,6 +1,7 @@
 -- The least fault of a model, from those of the two stages of its rules.
 use Rattle.std.proofs.Common.{◌≡◌, ℕ, ◌<◌, ◌≤◌, List, Bool, true, false, ◌||◌, ◌&&◌, not, inl, Option, Some, None, refl, sym, subst, ◌∙◌, arith, ⊎_elim, ltb}
 use Rattle.std.proofs.lemmas.Bool.Decides.{nat_tests}
+use Rattle.std.proofs.lemmas.Bool.{or_cases, or_left, or_right}
 use Rattle.cim_profile.specs.FirstBreak.{IsFirstBreak}
 use Rattle.cim_words.specs.declared.statement.Statement.{Statement}
 use Rattle.cim_model.specs.Model.{is_subject}
@@ -9,7 +10,6 @@ use Rattle.cim_profile.specs.Walk.{IsLeast, breaks_in, covers}
 use Rattle.cim_profile.specs.declared.faults.Break.{Break}
 use Rattle.cim_profile.specs.declared.stage.Stage.TheVariants.{Repeats, Rest}
 use Rattle.cim_profile.specs.declared.stage.TheConstants.{ON_REPEATS}
-use Rattle.cim_model.proofs.Runs.{either, or_left, or_right}
 
 -- ---- the rules of the two stages
 
@@ -42,14 +42,14 @@ first_of_repeats m b least = (
       (λ there.
       let before : b.rule ≤ ON_REPEATS = early m b.rule b.subject.number least.1 in
       let from : ON_REPEATS < rule = late m rule x there in inl (omega arith))
-      (either _ _ (sym (by_stage m rule x) ∙ fault.broken)),
+      (or_cases _ _ (sym (by_stage m rule x) ∙ fault.broken)),
 )
 
 first_of_rest : (m : List Statement) (least : Option Break) → IsLeast (breaks_in Repeats m) (is_subject m) None → IsLeast (breaks_in Rest m) (is_subject m) least → IsFirstBreak m least
-first_of_rest m None none least = λ rule x fault. ⊎_elim (λ here. none rule x fault.subject here) (λ there. least rule x fault.subject there) (either _ _ (sym (by_stage m rule x) ∙ fault.broken))
+first_of_rest m None none least = λ rule x fault. ⊎_elim (λ here. none rule x fault.subject here) (λ there. least rule x fault.subject there) (or_cases _ _ (sym (by_stage m rule x) ∙ fault.broken))
 first_of_rest m (Some b) none least = (
   record { subject = least.0; broken = by_stage m b.rule b.subject.number ∙ or_right _ _ least.1 },
-  λ rule x fault. ⊎_elim (λ here. absurd (none rule x fault.subject here)) (λ there. least.2 rule x fault.subject there) (either _ _ (sym (by_stage m rule x) ∙ fault.broken)),
+  λ rule x fault. ⊎_elim (λ here. absurd (none rule x fault.subject here)) (λ there. least.2 rule x fault.subject there) (or_cases _ _ (sym (by_stage m rule x) ∙ fault.broken)),
 )
 
 -- the same for a list that is the model's

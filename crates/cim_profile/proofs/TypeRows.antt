@@ -2,6 +2,9 @@
 use Rattle.std.proofs.Common.{◌≡◌, ℕ, List, [], ◌∷◌, map, Bool, true, false, not, cond, ◌&&◌, ◌||◌, ◌==◌, Option, Some, None, refl, sym, ap, ◌∙◌}
 use Rattle.std.specs.List.{filter, dedup, list_any}
 use Rattle.std.specs.Option.{option_eq}
+use Rattle.std.proofs.lemmas.Bool.{and_parts, eqb-true}
+use Rattle.cim_model.proofs.FaultlessSubjects.{empty_map}
+use Rattle.plain_laws.proofs.Tests.{any_dedup, any_map_filter}
 use Rattle.cim_words.specs.declared.class.Class.{Class}
 use Rattle.cim_words.specs.Properties as property
 use Rattle.cim_words.specs.declared.statement.Statement.{Statement}
@@ -10,8 +13,7 @@ use Rattle.cim_model.specs.Model.{class_named, is_by, is_empty, is_of, said}
 use Rattle.cim_profile.specs.Table.{has_key, rows_at, values_at}
 use Rattle.cim_profile.specs.declared.table.Row.{Row}
 use Rattle.cim_profile.proofs.Held.{holds_kept}
-use Rattle.cim_profile.proofs.Lists.{any_dedup, any_said, any_there, filter_map_present}
-use Rattle.cim_model.proofs.Runs.{same_number}
+use Rattle.cim_profile.proofs.RowValues.{any_there, filter_map_present}
 
 -- ---- values of rows, as tests of the rows
 
@@ -28,14 +30,10 @@ empty_read f p [] = refl
 empty_read f p (x ∷ xs) = empty_one f x (filter p xs) (p x) ∙ ap (λ (r : Bool). not (p x) && r) (empty_read f p xs) ∙ none_of (p x) (list_any p xs)
 
 any_value : (test : Class → Bool) (rows : List (Row (Option Class))) (x : ℕ) → list_any test (present (values_at rows x)) ≡ list_any (λ (row : Row (Option Class)). has_key x row && is_present_and test row.value) rows
-any_value test rows x = any_there test (values_at rows x) ∙ any_said (is_present_and test) (λ (row : Row (Option Class)). row.value) (has_key x) rows
+any_value test rows x = any_there test (values_at rows x) ∙ any_map_filter (is_present_and test) (λ (row : Row (Option Class)). row.value) (has_key x) rows
 
 pub any_type : (test : Class → Bool) (values : List (Option Class)) (m : List Statement) (x : ℕ) → values ≡ map class_named (said m x property.rdf_type) → list_any test (present values) ≡ is_of m test x
 any_type test values m x same = ap (λ (those : List (Option Class)). list_any test (present those)) same ∙ ap (list_any test) (sym (filter_map_present class_named (said m x property.rdf_type)))
-
-empty_map : {Y Z : Type 0} (g : Y → Z) (objects : List Y) → is_empty (map g objects) ≡ is_empty objects
-empty_map g [] = refl
-empty_map g (y ∷ ys) = refl
 
 -- what the table of the rows holds, without the repeated ones
 pub types_kept : (same : Row (Option Class) → Row (Option Class) → Bool) → ((one other : Row (Option Class)) → same one other ≡ true → one ≡ other) → (m : List Statement) (rows kept table : List (Row (Option Class)))
@@ -55,10 +53,6 @@ types_kept same equal m rows kept table those are found x = record {
 
 -- ---- equality of rows
 
-both : (a b : Bool) → (a && b) ≡ true → (a ≡ true) × (b ≡ true)
-both true b h = (refl, h)
-both false b h = absurd cc
-
 one_option : {X : Type 0} (same : X → X → Bool) → ((x y : X) → same x y ≡ true → x ≡ y) → (v w : Option X) → option_eq same v w ≡ true → v ≡ w
 one_option same equal None None h = refl
 one_option same equal None (Some y) h = absurd cc
@@ -74,5 +68,5 @@ one_row m n v w number value = rw (number, value) refl
 -- rows with one number and one value
 pub equal_rows : {X : Type 0} (same : X → X → Bool) → ((x y : X) → same x y ≡ true → x ≡ y) → (one other : Row (Option X)) → (one.key.number == other.key.number && option_eq same one.value other.value) ≡ true → one ≡ other
 equal_rows same equal one other h =
-    let parts = both _ _ h in
-    one_row one.key.number other.key.number one.value other.value (same_number _ _ parts.0) (one_option same equal one.value other.value parts.1)
+    let parts = and_parts _ _ h in
+    one_row one.key.number other.key.number one.value other.value (eqb-true _ _ parts.0) (one_option same equal one.value other.value parts.1)

@@ -3,12 +3,16 @@ use Rattle.std.proofs.Common.{true, false, ◌≡◌, ℕ, ◌==◌, List, [], �
 use Rattle.std.specs.Prelude.{if◌then◌else◌}
 use Rattle.std.specs.List.{filter}
 use Rattle.std.proofs.lemmas.List.{map-append}
+use Rattle.std.proofs.lemmas.Bool.{eqb-true}
+use Rattle.std.proofs.lemmas.List.Elements.{filter_agree}
+use Rattle.std.proofs.Math.Bool.{and_comm}
+use Rattle.plain_laws.proofs.Filters.{filter_twice}
+use Rattle.plain_laws.proofs.Numbers.{equal_turned}
 use Rattle.cim_words.specs.Groups.{is_terminal}
 use Rattle.cim_words.specs.declared.identifier.Id.{Id}
 use Rattle.cim_words.specs.Properties as property
 use Rattle.cim_words.specs.declared.statement.Statement.{Statement}
 use Rattle.cim_model.specs.Model.{is_naming, is_of, naming}
-use Rattle.cim_model.proofs.Runs.{same_number}
 use Rattle.cim_model.specs.Network.{has_sides, terminals_by_side}
 use Rattle.cim_model.specs.Profile.{IsFaultless}
 use Rattle.cim_model.specs.Stated.{terminals_at, terminals_of}
@@ -19,8 +23,7 @@ use Rattle.cim_records.specs.Subject.{records}
 use Rattle.cim_records.specs.declared.gathering.Gathering.{Gathering}
 use Rattle.cim_records.specs.declared.gathering.Gathering.TheVariants.{FirstTerminals, OtherTerminals, NodeTerminals}
 use Rattle.cim_records.specs.declared.subject.Subject.{Subject}
-use Rattle.cim_records.proofs.Known.{is_known, number_known, turned}
-use Rattle.cim_records.proofs.Lists.{filter_same, filter_twice}
+use Rattle.cim_records.proofs.Known.{is_known, number_known}
 use Rattle.cim_records.proofs.Sides.{is_first, terminals_parted}
 
 -- ---- one statement more
@@ -36,7 +39,7 @@ module _ (gathering : Gathering) (subjects : List (Id × Subject)) (x : ℕ) whe
       → is_taken gathering (known_of subjects key) (known_of subjects s.subject.number) ≡ false → gathers (s ∷ after) ≡ gathers after
   untaken_by s after key false names same untakable = rw names refl
   untaken_by s after key true names same untakable =
-      let is : key ≡ x = same_number key x same in
+      let is : key ≡ x = eqb-true key x same in
       rw (names, ap (λ (n : ℕ). is_taken gathering (known_of subjects n) (known_of subjects s.subject.number)) (sym is) ∙ untakable) refl
 
   pub untaken : (s : Statement) (after : List Statement) (key : ℕ) → (key == x) ≡ is_naming (property_of gathering) x s
@@ -53,7 +56,7 @@ module _ (gathering : Gathering) (subjects : List (Id × Subject)) (x : ℕ) whe
       → now ++ map as_id (gathers after) ≡ held ++ map as_id (gathers (s ∷ after))
   added_by s after key held now false names same takable added = rw (added, names) refl
   added_by s after key held now true names same takable added =
-      let is : key ≡ x = same_number key x same in
+      let is : key ≡ x = eqb-true key x same in
       let first : gathers (s ∷ after) ≡ s.subject.number ∷ gathers after
       = rw (names, ap (λ (n : ℕ). is_taken gathering (known_of subjects n) (known_of subjects s.subject.number)) (sym is) ∙ takable) refl in
       ap (λ (ids : List Id). ids ++ map as_id (gathers after)) added
@@ -65,7 +68,7 @@ module _ (gathering : Gathering) (subjects : List (Id × Subject)) (x : ℕ) whe
       → is_taken gathering (known_of subjects key) (known_of subjects s.subject.number) ≡ true → now ≡ (if x == key then held ++ s.subject ∷ [] else held)
       → held ++ map as_id (gathers left) ≡ all → now ++ map as_id (gathers after) ≡ all
   gathered_more left after s key held now all at names takable added so_far =
-      added_by s after key held now (is_naming (property_of gathering) x s) refl names takable (added ∙ ap (λ (b : Bool). if b then held ++ s.subject ∷ [] else held) (turned x key ∙ names))
+      added_by s after key held now (is_naming (property_of gathering) x s) refl names takable (added ∙ ap (λ (b : Bool). if b then held ++ s.subject ∷ [] else held) (equal_turned x key ∙ names))
       ∙ ap (λ (list : List Statement). held ++ map as_id (gathers list)) (sym at)
       ∙ so_far
 
@@ -77,18 +80,12 @@ module _ (gathering : Gathering) (subjects : List (Id × Subject)) (x : ℕ) whe
 
 -- ---- in a model without fault
 
-either_order : (a b : Bool) → (a && b) ≡ (b && a)
-either_order true true = refl
-either_order true false = refl
-either_order false true = refl
-either_order false false = refl
-
 module _ (m : List Statement) (faultless : IsFaultless m) (x : ℕ) where
   abbrev leading : ℕ → Bool
   leading t = is_of m has_sides x && is_first m t
 
   leads_is : (t : ℕ) → leads (known_of (records m) x) (known_of (records m) t) ≡ leading t
-  leads_is t = rw (is_known m faultless x has_sides, number_known m faultless t) (either_order (is_first m t) (is_of m has_sides x))
+  leads_is t = rw (is_known m faultless x has_sides, number_known m faultless t) (and_comm (is_first m t) (is_of m has_sides x))
 
   first_taken : (t : ℕ) → is_taken FirstTerminals (known_of (records m) x) (known_of (records m) t) ≡ (is_of m is_terminal t && leading t)
   first_taken t = ap (λ (b : Bool). b && leads (known_of (records m) x) (known_of (records m) t)) (is_known m faultless t is_terminal) ∙ ap (λ (b : Bool). is_of m is_terminal t && b) (leads_is t)
@@ -98,8 +95,8 @@ module _ (m : List Statement) (faultless : IsFaultless m) (x : ℕ) where
 
   sides_gathered : gathered FirstTerminals (records m) m x ++ gathered OtherTerminals (records m) m x ≡ terminals_by_side m x
   sides_gathered =
-      ap (λ (ts : List ℕ). ts ++ gathered OtherTerminals (records m) m x) (filter_same _ _ first_taken (naming m property.conducting_equipment x) ∙ sym (filter_twice leading (is_of m is_terminal) (naming m property.conducting_equipment x)))
-      ∙ ap (λ (ts : List ℕ). filter leading (terminals_of m x) ++ ts) (filter_same _ _ other_taken (naming m property.conducting_equipment x) ∙ sym (filter_twice (λ t. not (leading t)) (is_of m is_terminal) (naming m property.conducting_equipment x)))
+      ap (λ (ts : List ℕ). ts ++ gathered OtherTerminals (records m) m x) (filter_agree _ _ first_taken (naming m property.conducting_equipment x) ∙ sym (filter_twice leading (is_of m is_terminal) (naming m property.conducting_equipment x)))
+      ∙ ap (λ (ts : List ℕ). filter leading (terminals_of m x) ++ ts) (filter_agree _ _ other_taken (naming m property.conducting_equipment x) ∙ sym (filter_twice (λ t. not (leading t)) (is_of m is_terminal) (naming m property.conducting_equipment x)))
       ∙ sym (terminals_parted m faultless x)
 
   -- the terminals 1 of what has sides, and behind them all others
@@ -113,4 +110,4 @@ module _ (m : List Statement) (faultless : IsFaultless m) (x : ℕ) where
 
   pub node_gathered : (subjects : List (Id × Subject)) (none first : List (Id × List Id)) → subjects ≡ records m → none ≡ [] → members first x ≡ members none x ++ map as_id (gathered NodeTerminals subjects m x) → members first x ≡ map as_id (terminals_at m x)
   node_gathered subjects none first are empty one =
-      one ∙ rw (are, empty) refl ∙ ap (map as_id) (filter_same _ _ (λ t. is_known m faultless t is_terminal) (naming m property.connectivity_node x))
+      one ∙ rw (are, empty) refl ∙ ap (map as_id) (filter_agree _ _ (λ t. is_known m faultless t is_terminal) (naming m property.connectivity_node x))

@@ -2,7 +2,7 @@
 use Rattle.std.proofs.Common.{◌≡◌, ℕ, List, [], ◌∷◌, map, Bool, true, false, cond, ◌||◌, ◌==◌, Option, Some, None, refl, ap, sym, ◌∙◌, arith}
 use Rattle.std.specs.Prelude.{if◌then◌else◌, option_map, unwrap_or, is_some}
 use Rattle.std.specs.List.{list_any}
-use Rattle.std.proofs.lemmas.Bool.Decides.{nat_tests}
+use Rattle.std.proofs.lemmas.Bool.{eqb-true}
 use Rattle.cim_words.specs.Groups.{is_cut, is_terminal}
 use Rattle.cim_words.specs.declared.class.Class.{Class}
 use Rattle.cim_words.specs.declared.statement.Statement.{Statement}
@@ -12,18 +12,17 @@ use Rattle.cim_model.specs.Network.{is_class}
 use Rattle.cim_model.specs.Phases.{no_phases}
 use Rattle.cim_model.specs.Profile.{IsFaultless}
 use Rattle.cim_model.specs.Values.{as_id, as_length, code_said, kind_said, length_said, number_of_id, number_said, truth_said}
-use Rattle.cim_model.proofs.Runs.{same_number}
 use Rattle.cim_records.specs.Found.{found, known_of}
 use Rattle.cim_records.specs.Subject.{records, subject_in}
 use Rattle.cim_records.specs.declared.subject.Subject.{Subject}
-use Rattle.cim_model.proofs.Classes.{one_class}
-use Rattle.cim_model.proofs.SubjectLists.{among_subjects}
+use Rattle.cim_model.proofs.Classes.{is_of_by_class}
+use Rattle.cim_model.proofs.SubjectLists.{listed_as_subject}
 use Rattle.cim_records.proofs.Rules.{silent, value_is}
 
 -- ---- what is found under an identifier
 
 found_one : {V : Type 0} (f : ℕ → V) (x k : ℕ) (o : Option V) (r b : Bool) → (x == k) ≡ b → o ≡ (if r then Some (f x) else None) → cond b (Some (f k)) o ≡ (if b || r then Some (f x) else None)
-found_one f x k o r true same rest = ap (λ (n : ℕ). Some (f n)) (sym (same_number x k same))
+found_one f x k o r true same rest = ap (λ (n : ℕ). Some (f n)) (sym (eqb-true x k same))
 found_one f x k o r false same rest = rest
 
 -- among entries whose values are told by their keys
@@ -31,11 +30,8 @@ pub found_map : {V : Type 0} (f : ℕ → V) (keys : List ℕ) (x : ℕ) → fou
 found_map f [] x = refl
 found_map f (k ∷ keys) x = found_one f x k _ (list_any (λ (n : ℕ). x == n) keys) (x == k) refl (found_map f keys x)
 
-pub turned : (m n : ℕ) → (m == n) ≡ (n == m)
-turned m n = grind (arith, nat_tests)
-
 pub found_is : (m : List Statement) (x : ℕ) → found (records m) x ≡ (if is_subject m x then Some (subject_in (about m x)) else None)
-found_is m x = found_map (λ (k : ℕ). subject_in (about m k)) (subjects m) x ∙ ap (λ (b : Bool). if b then Some (subject_in (about m x)) else None) (among_subjects x m)
+found_is m x = found_map (λ (k : ℕ). subject_in (about m k)) (subjects m) x ∙ ap (λ (b : Bool). if b then Some (subject_in (about m x)) else None) (listed_as_subject x m)
 
 known_at : (m : List Statement) (x : ℕ) (o : Option Subject) (b : Bool) → is_subject m x ≡ b → o ≡ (if b then Some (subject_in (about m x)) else None) → unwrap_or o (subject_in []) ≡ subject_in (about m x)
 known_at m x o true is h = rw h refl
@@ -61,7 +57,7 @@ module _ (m : List Statement) (faultless : IsFaultless m) (x : ℕ) where
   class_known = ap (λ (s : Subject). s.class) (known_is m x)
 
   pub is_known : (test : Class → Bool) → is_class test known.class ≡ is_of m test x
-  is_known test = ap (is_class test) class_known ∙ sym (one_class test m x faultless)
+  is_known test = ap (is_class test) class_known ∙ sym (is_of_by_class test m x faultless)
 
   pub owner_known : known.owner ≡ option_map as_id (network.owner_of m x)
   owner_known = ap (λ (s : Subject). s.owner) (known_is m x) ∙ ap (option_map as_id) (sym (value_is id_said m x 0 faultless (omega arith)))
@@ -81,7 +77,7 @@ module _ (m : List Statement) (faultless : IsFaultless m) (x : ℕ) where
   pub open_known : known.is_open ≡ network.open_of m x
   open_known =
       ap (λ (s : Subject). s.is_open) (known_is m x)
-      ∙ rw (← value_is truth_said m x 5 faultless (omega arith), ← value_is truth_said m x 4 faultless (omega arith), ← one_class is_cut m x faultless) refl
+      ∙ rw (← value_is truth_said m x 5 faultless (omega arith), ← value_is truth_said m x 4 faultless (omega arith), ← is_of_by_class is_cut m x faultless) refl
 
   pub equipment_known : known.equipment ≡ option_map as_id (network.equipment_of m x)
   equipment_known =

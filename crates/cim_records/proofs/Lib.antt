@@ -1,13 +1,9 @@
-pub mod Lists
 pub mod Rules
 pub mod Known
 pub mod Reading
 pub mod Phases
 pub mod Updates
 pub mod Taken
-pub mod Kept
-pub mod Marked
 pub mod Sides
 pub mod Stated
 pub mod Gathers
-pub mod Standing

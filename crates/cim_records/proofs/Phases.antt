@@ -1,8 +1,9 @@
 -- Sets of phases, and their unions.
-use Rattle.std.proofs.Common.{◌≡◌, ℕ, ◌+◌, ◌<◌, List, [], ◌∷◌, ◌++◌, map, length, take, get_or, Bool, true, false, ◌||◌, Option, Some, None, refl, ap, sym, ◌∙◌}
+use Rattle.std.proofs.Common.{◌≡◌, ℕ, ◌+◌, ◌<◌, List, [], ◌∷◌, ◌++◌, map, length, take, get_or, Bool, false, ◌||◌, Option, Some, None, refl, ap, sym, ◌∙◌}
 use Rattle.std.specs.List.{list_any}
 use Rattle.std.proofs.lemmas.List.{map-append, take_more}
 use Rattle.std.proofs.lemmas.List.Folds.{list_any-append}
+use Rattle.std.proofs.Math.Bool.{or-false, or_assoc}
 use Rattle.cim_words.specs.Phases.{has_phase}
 use Rattle.cim_words.specs.declared.phases.Phase.{Phase}
 use Rattle.cim_words.specs.declared.phases.Phase.TheVariants as phase
@@ -28,20 +29,12 @@ has_of test phase.N = refl
 has_of test phase.S1 = refl
 has_of test phase.S2 = refl
 
-or_assoc : (a b c : Bool) → ((a || b) || c) ≡ (a || (b || c))
-or_assoc true b c = refl
-or_assoc false b c = refl
-
-or_none : (a : Bool) → (a || false) ≡ a
-or_none true = refl
-or_none false = refl
-
 abbrev any : List PhaseSet → Phase → Bool
 any sets p = list_any (λ set. has_phase set p) sets
 
 -- joining sets to a set adds their union
 joined_to : (set : PhaseSet) (sets : List PhaseSet) → join_all (Some set) sets ≡ Some (set_of (λ p. has_phase set p || any sets p))
-joined_to set [] = ap (λ (s : PhaseSet). Some s) (set_is set (λ p. has_phase set p || false) (λ p. sym (or_none (has_phase set p))))
+joined_to set [] = ap (λ (s : PhaseSet). Some s) (set_is set (λ p. has_phase set p || false) (λ p. sym (or-false (has_phase set p))))
 joined_to set (next ∷ sets) =
     joined_to (join_one (Some set) next) sets
     ∙ ap (λ (s : PhaseSet). Some s) (same_sets _ _ (λ p. ap (λ (b : Bool). b || any sets p) (has_of (λ q. has_phase set q || has_phase next q) p) ∙ or_assoc (has_phase set p) (has_phase next p) (any sets p)))
@@ -62,7 +55,7 @@ pub union_more : {X : Type 0} (f : X → PhaseSet) (xs : List X) (i : ℕ) (d : 
 union_more f xs i d phases next within is last p =
     ap (λ (b : Bool). b || has_phase next p) (ap (λ (s : PhaseSet). has_phase s p) is ∙ has_of (any (map f (take i xs))) p)
     ∙ ap (λ (s : PhaseSet). any (map f (take i xs)) p || has_phase s p) last
-    ∙ ap (λ (b : Bool). any (map f (take i xs)) p || b) (sym (or_none (has_phase (f (get_or xs i d)) p)))
+    ∙ ap (λ (b : Bool). any (map f (take i xs)) p || b) (sym (or-false (has_phase (f (get_or xs i d)) p)))
     ∙ sym (list_any-append (λ set. has_phase set p) (map f (take i xs)) (f (get_or xs i d) ∷ []))
     ∙ ap (λ (sets : List PhaseSet). any sets p) (sym (ap (map f) (take_more xs i d within) ∙ map-append f (take i xs) (get_or xs i d ∷ [])))
 

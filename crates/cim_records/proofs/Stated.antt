@@ -1,9 +1,11 @@
 -- The phases that phase objects state, gathered statement by statement.
 use Rattle.std.proofs.Common.{◌≡◌, ℕ, ◌+◌, ◌<◌, ◌==◌, List, [], ◌∷◌, ◌++◌, map, length, take, get_or, Bool, true, false, Option, Some, None, refl, ap, sym, ◌∙◌, rules}
 use Rattle.std.specs.Prelude.{if◌then◌else◌}
-use Rattle.std.specs.List.{cons_option, filter, filter_map}
+use Rattle.std.specs.List.{filter, filter_map}
 use Rattle.std.proofs.lemmas.List.{map-append, take_more}
-use Rattle.std.proofs.lemmas.List.Elements.{filter-append}
+use Rattle.std.proofs.lemmas.List.Elements.{filter-append, filter_agree, filter_map-append}
+use Rattle.plain_laws.proofs.Filters.{filter_map_same}
+use Rattle.plain_laws.proofs.Numbers.{equal_turned}
 use Rattle.cim_words.specs.Groups.{counts_on}
 use Rattle.cim_words.specs.declared.identifier.Id.{Id}
 use Rattle.cim_words.specs.declared.known_prop.KnownProp.{KnownProp}
@@ -18,24 +20,8 @@ use Rattle.cim_records.specs.Joined.{join_all, join_one, stated_by}
 use Rattle.cim_records.specs.Subject.{records}
 use Rattle.cim_records.specs.Tables.{union_of}
 use Rattle.cim_records.specs.declared.subject.Subject.{Subject}
-use Rattle.cim_records.proofs.Known.{is_known, phase_known, turned}
-use Rattle.cim_records.proofs.Lists.{filter_same}
+use Rattle.cim_records.proofs.Known.{is_known, phase_known}
 use Rattle.cim_records.proofs.Phases.{join_append, joined_is}
-
-cons_append : {Y : Type 0} (o : Option Y) (ys zs : List Y) → cons_option o (ys ++ zs) ≡ cons_option o ys ++ zs
-cons_append None ys zs = refl
-cons_append (Some y) ys zs = refl
-
-filter_map_append : {X Y : Type 0} (f : X → Option Y) (xs ys : List X) → filter_map f (xs ++ ys) ≡ filter_map f xs ++ filter_map f ys
-filter_map_append f [] ys = refl
-filter_map_append f (x ∷ xs) ys = ap (cons_option (f x)) (filter_map_append f xs ys) ∙ cons_append (f x) (filter_map f xs) (filter_map f ys)
-
-cons_same : {Y : Type 0} (o p : Option Y) (ys zs : List Y) → o ≡ p → ys ≡ zs → cons_option o ys ≡ cons_option p zs
-cons_same o p ys zs first rest = rw (first, rest) refl
-
-filter_map_same : {X Y : Type 0} (f g : X → Option Y) → ((x : X) → f x ≡ g x) → (xs : List X) → filter_map f xs ≡ filter_map g xs
-filter_map_same f g same [] = refl
-filter_map_same f g same (x ∷ xs) = cons_same (f x) (g x) (filter_map f xs) (filter_map g xs) (same x) (filter_map_same f g same xs)
 
 -- ---- one statement more
 
@@ -51,7 +37,7 @@ module _ (subjects : List (Id × Subject)) (k : KnownProp) (x : ℕ) where
       ap (λ (list : List Statement). filter_map phase (filter counted (map (λ (s : Statement). s.subject.number) list))) (filter-append (is_naming k x) done more)
       ∙ ap (λ (list : List ℕ). filter_map phase (filter counted list)) (map-append (λ (s : Statement). s.subject.number) (filter (is_naming k x) done) (filter (is_naming k x) more))
       ∙ ap (filter_map phase) (filter-append counted (naming done k x) (naming more k x))
-      ∙ filter_map_append phase (filter counted (naming done k x)) (filter counted (naming more k x))
+      ∙ filter_map-append phase (filter counted (naming done k x)) (filter counted (naming more k x))
 
   stated_next : (m : List Statement) (i : ℕ) (s : Statement) → i < length m → s ≡ get_or m i s → stated_by subjects (take (i + 1) m) k x ≡ stated_by subjects (take i m) k x ++ stated_by subjects (s ∷ []) k x
   stated_next m i s within is =
@@ -97,7 +83,7 @@ module _ (subjects : List (Id × Subject)) (k : KnownProp) (x : ℕ) where
       → now ≡ (if x == id.number then Some (join_one old v) else old) → now ≡ join_all first (stated_by subjects (take (i + 1) m) k x)
   joined_more m i s id v first old now within is names counts_here some so_far added =
       added
-      ∙ ap (λ (b : Bool). if b then Some (join_one old v) else old) (turned x id.number ∙ names)
+      ∙ ap (λ (b : Bool). if b then Some (join_one old v) else old) (equal_turned x id.number ∙ names)
       ∙ join_one_more old v (is_naming k x s)
       ∙ ap (λ (sets : List PhaseSet). join_all old sets) (sym (stating_one s (is_naming k x s) v refl counts_here some))
       ∙ ap (λ (o : Option PhaseSet). join_all o (stated_by subjects (s ∷ []) k x)) so_far
@@ -109,13 +95,13 @@ module _ (subjects : List (Id × Subject)) (k : KnownProp) (x : ℕ) where
 module _ (m : List Statement) (faultless : IsFaultless m) (x : ℕ) where
   stated_is : (k : KnownProp) → stated_by (records m) m k x ≡ filter_map (part_phase m) (naming_by m k x)
   stated_is k =
-      ap (filter_map (phase (records m) k x)) (filter_same (counted (records m) k x) (λ y. counts m y k) (λ y. is_known m faultless y (counts_on k)) (naming m k x))
+      ap (filter_map (phase (records m) k x)) (filter_agree (counted (records m) k x) (λ y. counts m y k) (λ y. is_known m faultless y (counts_on k)) (naming m k x))
       ∙ filter_map_same (phase (records m) k x) (part_phase m) (λ y. phase_known m faultless y) (naming_by m k x)
 
   all_stated : part_phases m x ≡ stated_by (records m) m property.segment_of_phase x ++ stated_by (records m) m property.consumer_of_phase x ++ stated_by (records m) m property.switch_of_phase x
   all_stated =
-      filter_map_append (part_phase m) (naming_by m property.segment_of_phase x ++ naming_by m property.consumer_of_phase x) (naming_by m property.switch_of_phase x)
-      ∙ ap (λ (sets : List PhaseSet). sets ++ filter_map (part_phase m) (naming_by m property.switch_of_phase x)) (filter_map_append (part_phase m) (naming_by m property.segment_of_phase x) (naming_by m property.consumer_of_phase x))
+      filter_map-append (part_phase m) (naming_by m property.segment_of_phase x ++ naming_by m property.consumer_of_phase x) (naming_by m property.switch_of_phase x)
+      ∙ ap (λ (sets : List PhaseSet). sets ++ filter_map (part_phase m) (naming_by m property.switch_of_phase x)) (filter_map-append (part_phase m) (naming_by m property.segment_of_phase x) (naming_by m property.consumer_of_phase x))
       ∙ rw (stated_is property.segment_of_phase, stated_is property.consumer_of_phase, stated_is property.switch_of_phase) refl
 
   joined_in_turn : (first second third : Option PhaseSet) → first ≡ join_all None (stated_by (records m) m property.segment_of_phase x) → second ≡ join_all first (stated_by (records m) m property.consumer_of_phase x)

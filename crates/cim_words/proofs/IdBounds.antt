@@ -4,6 +4,8 @@ use Rattle.std.proofs.lemmas.Bool.Decides.{nat_tests}
 use Rattle.std.proofs.lemmas.List.Sums.{AllPass-from_list_all}
 use Rattle.std.specs.Int.{from_be_bytes, w128}
 use Rattle.std.specs.List.{list_all}
+use Rattle.std.proofs.lemmas.Bool.{and_parts}
+use Rattle.plain_laws.proofs.Options.{if_then_some}
 use Rattle.uuid.specs.Text.{by_index, parsed_simple, digits_of, has_hyphens, is_hex_digit, value_of, byte_of_digits}
 use Rattle.uuid.proofs.TextLemmas.{by_index_at}
 use Rattle.cim_words.specs.IdText.{plain_number, iri_number, is_iri_head}
@@ -36,13 +38,10 @@ taken : {X : Type 0} (test : Bool) (value : Option X) (f : X → ℕ) (n : ℕ) 
 taken true value f n some = (refl, some)
 taken false value f n some = cc
 
-both : (a b : Bool) → (a && b) ≡ true → (a ≡ true) × (b ≡ true)
-both a b holds = grind arith
-
 simple_below : (hex : List ℕ) (n : ℕ) → option_map (from_be_bytes w128) (parsed_simple hex) ≡ Some n → n < 2 ^ 128
 simple_below hex n some =
     let read = taken ((length hex == 32) && list_all is_hex_digit hex) (Some (by_index 16 (byte_of_digits hex))) (from_be_bytes w128) n some in
-    let tests = both (length hex == 32) (list_all is_hex_digit hex) read.0 in
+    let tests = and_parts (length hex == 32) (list_all is_hex_digit hex) read.0 in
     let long : length hex ≡ 32 = grind (arith, nat_tests, tests.0) in
     let digit = λ (k : ℕ) (within : k < 32). value_fits (get_or hex k 0) (AllPass-from_list_all is_hex_digit hex tests.1 k 0 (omega arith)) in
     let below = bytes_below (by_index 16 (byte_of_digits hex))
@@ -56,12 +55,8 @@ unfolding plain_number
 plain_number-below text n some =
     simple_below (digits_of text) n (taken ((length text == 36) && has_hyphens text) (parsed_simple (digits_of text)) (from_be_bytes w128) n some).1
 
-plain_taken : (test : Bool) (value : Option ℕ) (n : ℕ) → (if test then value else None) ≡ Some n → value ≡ Some n
-plain_taken true value n some = some
-plain_taken false value n some = cc
-
 -- the number of an IRI fits into 128 bits
 pub iri_number-below : (text : List ℕ) (n : ℕ) → iri_number text ≡ Some n → n < 2 ^ 128
 unfolding iri_number
 iri_number-below text n some =
-    plain_number-below _ n (plain_taken (is_iri_head (take (length text - 36) text)) (plain_number (drop (length text - 36) text)) n some)
+    plain_number-below _ n (if_then_some (is_iri_head (take (length text - 36) text)) (plain_number (drop (length text - 36) text)) n some).1

@@ -1,7 +1,8 @@
 -- What the parts of a text make of its length.
-use Rattle.std.proofs.Common.{◌≡◌, ℕ, suc, ◌+◌, ◌^◌, ◌<◌, ◌≤◌, List, [], ◌∷◌, ◌++◌, Bool, true, false, ◌&&◌, if◌then◌else◌, Option, Some, None, length, take, length-append, arith, refl}
+use Rattle.std.proofs.Common.{◌≡◌, ℕ, suc, ◌+◌, ◌^◌, ◌<◌, ◌≤◌, List, [], ◌∷◌, ◌++◌, Bool, true, false, ◌&&◌, if◌then◌else◌, Option, Some, None, length, take, length-append, arith, refl, sym}
 use Rattle.std.specs.Prelude.{nat_le, nat_lt}
 use Rattle.std.specs.List.{list_all, prefix_len}
+use Rattle.std.proofs.lemmas.Option.{cond_some}
 use Rattle.std.proofs.lemmas.Bool.{and_parts, and_from, le-leb, lt-ltb}
 use Rattle.cim_words.specs.Length.{IsNumberSplit, Scale, minus, digits_at, scale_of, scaled, millimetres, number_in, length_of}
 use Rattle.cim_words.specs.PhaseParts.{begins_with}
@@ -53,10 +54,6 @@ length_of-parts : (text whole fraction ending : List ℕ) → IsNumberSplit text
 unfolding length_of
 length_of-parts text whole fraction ending split = rw (split.whole_digits, split.fraction_digits, split.rest) refl
 
-tested : (b : Bool) (value number : ℕ) → Some number ≡ (if b then Some value else None) → (b ≡ true) × (value ≡ number)
-tested true value number is = (refl, cc)
-tested false value number is = absurd cc
-
 not_tested : (b : Bool) (value : ℕ) → None ≡ (if b then Some value else None) → b ≡ false
 not_tested true value is = absurd cc
 not_tested false value is = refl
@@ -72,7 +69,7 @@ length_of-no_number text whole fraction ending split none =
 pub length_of-no_scale : (text whole fraction ending : List ℕ) (number : ℕ) → IsNumberSplit text whole fraction ending
     → Some number ≡ number_in (whole ++ fraction) → scale_of ending ≡ None → None ≡ length_of text
 length_of-no_scale text whole fraction ending number split some none =
-    let yes = tested (nat_lt 0 (length (whole ++ fraction)) && nat_le (length (whole ++ fraction)) 30) (number_of (whole ++ fraction)) number some in
+    let yes = cond_some (nat_lt 0 (length (whole ++ fraction)) && nat_le (length (whole ++ fraction)) 30) (number_of (whole ++ fraction)) number (sym some) in
     rw (length_of-parts text whole fraction ending split, yes.0, none) refl
 
 -- a power of ten divides or multiplies the number
@@ -80,12 +77,12 @@ pub length_of-divided : (text whole fraction ending : List ℕ) (number : ℕ) (
     → Some number ≡ number_in (whole ++ fraction) → scale_of ending ≡ Some scale → scale.divides ≡ true
     → millimetres (begins_with minus text) number 0 (length fraction + scale.exponent) ≡ length_of text
 length_of-divided text whole fraction ending number scale split some is divides =
-    let yes = tested (nat_lt 0 (length (whole ++ fraction)) && nat_le (length (whole ++ fraction)) 30) (number_of (whole ++ fraction)) number some in
+    let yes = cond_some (nat_lt 0 (length (whole ++ fraction)) && nat_le (length (whole ++ fraction)) 30) (number_of (whole ++ fraction)) number (sym some) in
     rw (length_of-parts text whole fraction ending split, yes.0, is, divides, yes.1) refl
 
 pub length_of-multiplied : (text whole fraction ending : List ℕ) (number : ℕ) (scale : Scale) → IsNumberSplit text whole fraction ending
     → Some number ≡ number_in (whole ++ fraction) → scale_of ending ≡ Some scale → scale.divides ≡ false
     → millimetres (begins_with minus text) number scale.exponent (length fraction) ≡ length_of text
 length_of-multiplied text whole fraction ending number scale split some is divides =
-    let yes = tested (nat_lt 0 (length (whole ++ fraction)) && nat_le (length (whole ++ fraction)) 30) (number_of (whole ++ fraction)) number some in
+    let yes = cond_some (nat_lt 0 (length (whole ++ fraction)) && nat_le (length (whole ++ fraction)) 30) (number_of (whole ++ fraction)) number (sym some) in
     rw (length_of-parts text whole fraction ending split, yes.0, is, divides, yes.1) refl

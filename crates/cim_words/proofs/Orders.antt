@@ -1,15 +1,14 @@
 -- The order of statements is total, and it tells different statements apart.
-use Rattle.std.proofs.Common.{◌≡◌, ℕ, ◌-◌, get_or, refl, ap, sym, ◌∙◌, arith}
+use Rattle.std.proofs.Common.{◌≡◌, ℕ, ◌-◌, get_or, refl, ap, sym, ◌∙◌}
 use Rattle.std.specs.Cmp.{IsTotalOrder}
 use Rattle.std.specs.Ordering.{nat_cmp, ordering_then, ordering_reverse}
-use Rattle.std.specs.declared.cmp.Ordering.{Ordering}
-use Rattle.std.specs.declared.cmp.Ordering.TheVariants.{Less, Equal, Greater}
-use Rattle.std.proofs.lemmas.Bool.Decides.{nat_tests}
+use Rattle.std.specs.declared.cmp.Ordering.TheVariants.{Less, Equal}
 use Rattle.std.proofs.lemmas.Cmp.{nat_cmp_total, nat_list_cmp_total, on_total, then_total}
 use Rattle.std.proofs.lemmas.Map.Lookups.{exact_bytes}
+use Rattle.plain_laws.proofs.Numbers.{cmp_equal}
+use Rattle.plain_laws.proofs.Sorted.{then_equal}
 use Rattle.cim_words.specs.KnownProp.{known_row}
 use Rattle.cim_words.specs.Order.{prop_order, object_order, statement_order}
-use Rattle.cim_words.specs.declared.identifier.Id.{Id}
 use Rattle.cim_words.specs.declared.known_prop.KnownProp.{KnownProp}
 use Rattle.cim_words.specs.declared.known_prop.KnownProp.TheVariants.{K1, K2, K3, K4, K5, K6, K7, K8, K9, K10, K11, K12, K13, K14, K15, K16, K17, K18, K19, K20}
 use Rattle.cim_words.specs.declared.known_prop.TheConstants.{KNOWN_PROPS}
@@ -18,7 +17,7 @@ use Rattle.cim_words.specs.declared.object.Object.TheVariants as object
 use Rattle.cim_words.specs.declared.prop.Prop.{Prop}
 use Rattle.cim_words.specs.declared.prop.Prop.TheVariants as prop
 use Rattle.cim_words.specs.declared.statement.Statement.{Statement}
-use Rattle.cim_words.proofs.Statements.{same_statement}
+use Rattle.cim_words.proofs.Statements.{same_id, same_statement}
 
 -- ---- the order of properties
 
@@ -116,17 +115,6 @@ statement_order_total = then_total (on_total subject_of nat_cmp_total) (then_tot
 
 -- ---- what ties is one
 
-then_equal : (o p : Ordering) → ordering_then o p ≡ Equal → (o ≡ Equal) × (p ≡ Equal)
-then_equal Less p h = absurd cc
-then_equal Equal p h = (refl, h)
-then_equal Greater p h = absurd cc
-
-same_number : (m n : ℕ) → nat_cmp m n ≡ Equal → m ≡ n
-same_number m n h = grind (arith, nat_tests)
-
-same_id : (i j : Id) → nat_cmp i.number j.number ≡ Equal → i ≡ j
-same_id i j h = let again : ℕ → Id = λ n. record { number = n } in ap again (same_number i.number j.number h)
-
 -- a known property stands in its row
 at_row : (k : KnownProp) → get_or KNOWN_PROPS (known_row k - 1) K1 ≡ k
 at_row K1 = refl
@@ -154,13 +142,13 @@ same_row : (k l : KnownProp) → known_row k ≡ known_row l → k ≡ l
 same_row k l e = sym (at_row k) ∙ ap (λ (n : ℕ). get_or KNOWN_PROPS (n - 1) K1) e ∙ at_row l
 
 same_prop : (p q : Prop) → prop_order p q ≡ Equal → p ≡ q
-same_prop (prop.Known k) (prop.Known l) h = ap prop.Known (same_row k l (same_number (known_row k) (known_row l) h))
+same_prop (prop.Known k) (prop.Known l) h = ap prop.Known (same_row k l (cmp_equal (known_row k) (known_row l) h))
 same_prop (prop.Known k) (prop.Other u) h = absurd cc
 same_prop (prop.Other t) (prop.Known l) h = absurd cc
 same_prop (prop.Other t) (prop.Other u) h = ap prop.Other (exact_bytes t u h)
 
 same_object : (p q : Object) → object_order p q ≡ Equal → p ≡ q
-same_object (object.Id i) (object.Id j) h = ap object.Id (same_id i j h)
+same_object (object.Id i) (object.Id j) h = ap object.Id (same_id i j (cmp_equal i.number j.number h))
 same_object (object.Id i) (object.Name u) h = absurd cc
 same_object (object.Id i) (object.Text u) h = absurd cc
 same_object (object.Name t) (object.Id j) h = absurd cc
@@ -171,8 +159,8 @@ same_object (object.Text t) (object.Name u) h = absurd cc
 same_object (object.Text t) (object.Text u) h = ap object.Text (exact_bytes t u h)
 
 -- statements that the order does not tell apart are one
-pub tied_statements : (s t : Statement) → statement_order s t ≡ Equal → s ≡ t
-tied_statements s t h =
+pub tied_statements_are_one : (s t : Statement) → statement_order s t ≡ Equal → s ≡ t
+tied_statements_are_one s t h =
     let first = then_equal (nat_cmp s.subject.number t.subject.number) (ordering_then (prop_order s.prop t.prop) (object_order s.object t.object)) h in
     let second = then_equal (prop_order s.prop t.prop) (object_order s.object t.object) first.1 in
-    same_statement s t (same_id s.subject t.subject first.0) (same_prop s.prop t.prop second.0) (same_object s.object t.object second.1)
+    same_statement s t (same_id s.subject t.subject (cmp_equal s.subject.number t.subject.number first.0)) (same_prop s.prop t.prop second.0) (same_object s.object t.object second.1)

@@ -1,9 +1,9 @@
 -- Powers of ten that cancel in a length, and those that leave nothing of it.
-use Rattle.std.proofs.Common.{◌≡◌, ◌≢◌, ℕ, ◌+◌, ◌-◌, ◌*◌, ◌/◌, ◌^◌, ◌<◌, ◌≤◌, ◌==◌, Bool, true, false, if◌then◌else◌, Some, None, arith, refl, ap, ◌∙◌}
+use Rattle.std.proofs.Common.{◌≡◌, ◌≢◌, ℕ, ◌+◌, ◌-◌, ◌*◌, ◌/◌, ◌^◌, ◌<◌, ◌≤◌, Bool, true, false, if◌then◌else◌, Some, None, arith, refl, ap, ◌∙◌}
 use Rattle.std.specs.Prelude.{nat_le}
 use Rattle.std.proofs.Math.Nat.{one-le-pow, mul-le-mul_right, le_of_mul-le-mul_right, mul-div-mul_left, mul-div_cancel, div-eq_of_lt}
 use Rattle.std.proofs.lemmas.Nat.{pow-add}
-use Rattle.std.proofs.lemmas.Bool.{le-leb}
+use Rattle.std.proofs.lemmas.Bool.{le-leb, ne_eqb}
 use Rattle.std.proofs.lemmas.Bool.Decides.{nat_tests}
 use Rattle.cim_words.specs.Length.{millimetres}
 
@@ -39,9 +39,6 @@ divided_at number power factor some =
     let thousand : number * (factor * 1000) ≡ factor * (number * 1000) = omega arith in
     rw (bound, thousand, same_test number (1000000000 * power) factor some, mul-div-mul_left (number * 1000) power some) refl
 
-not_zero : (number : ℕ) → number ≢ 0 → (number == 0) ≡ false
-not_zero number some = grind (arith, nat_tests)
-
 -- no metres are no millimetres, and fewer are no length
 pub millimetres_none : (negative : Bool) (number up down : ℕ) → number ≡ 0 → Some 0 ≡ millimetres negative number up down
 unfolding millimetres
@@ -49,7 +46,7 @@ millimetres_none negative number up down none = rw none refl
 
 pub millimetres_negative : (negative : Bool) (number up down : ℕ) → number ≢ 0 → negative ≡ true → None ≡ millimetres negative number up down
 unfolding millimetres
-millimetres_negative negative number up down some is_negative = rw (not_zero number some, is_negative) refl
+millimetres_negative negative number up down some is_negative = rw (ne_eqb number 0 some, is_negative) refl
 
 -- what is left of both powers multiplies
 pub millimetres_multiplied : (negative : Bool) (number up down : ℕ) → number ≢ 0 → negative ≡ false → down ≤ up
@@ -59,7 +56,7 @@ millimetres_multiplied negative number up down some positive more =
     let whole : up ≡ down + (up - down) = omega arith in
     let power : 10 ^ up ≡ 10 ^ down * 10 ^ (up - down) = ap (λ (n : ℕ). 10 ^ n) whole ∙ pow-add 10 down (up - down) in
     let thousand : 10 ^ (up + 3) ≡ 10 ^ down * 10 ^ (up - down) * 1000 = pow-add 10 up 3 ∙ ap (λ (n : ℕ). n * 1000) power in
-    rw (not_zero number some, positive, thousand, power) (multiplied_at number (10 ^ (up - down)) (10 ^ down) (power_pos down))
+    rw (ne_eqb number 0 some, positive, thousand, power) (multiplied_at number (10 ^ (up - down)) (10 ^ down) (power_pos down))
 
 -- what is left of both powers divides
 pub millimetres_divided : (negative : Bool) (number up down : ℕ) → number ≢ 0 → negative ≡ false → up < down
@@ -69,7 +66,7 @@ millimetres_divided negative number up down some positive less =
     let whole : down ≡ up + (down - up) = omega arith in
     let power : 10 ^ down ≡ 10 ^ up * 10 ^ (down - up) = ap (λ (n : ℕ). 10 ^ n) whole ∙ pow-add 10 up (down - up) in
     let thousand : 10 ^ (up + 3) ≡ 10 ^ up * 1000 = pow-add 10 up 3 in
-    rw (not_zero number some, positive, thousand, power) (divided_at number (10 ^ (down - up)) (10 ^ up) (power_pos up))
+    rw (ne_eqb number 0 some, positive, thousand, power) (divided_at number (10 ^ (down - up)) (10 ^ up) (power_pos up))
 
 -- a divisor that does not fit leaves nothing
 pub divided_none : (number divisor : ℕ) → number < 10 ^ 30 → (divisor < 2 ^ 128 → ⊥)

@@ -1,25 +1,19 @@
 -- What an identifier and a line look like once they are spelled.
-use Rattle.std.proofs.Common.{◌≡◌, ℕ, ◌<◌, List, [], ◌∷◌, ◌&&◌, Bool, true, false, IsTrue, refl, arith, codes, rules}
+use Rattle.std.proofs.Common.{◌≡◌, ℕ, ◌<◌, List, true, IsTrue, refl, arith, codes, rules}
 use Rattle.std.specs.List.{flat_map, list_all}
 use Rattle.std.specs.Str.{IsUtf8, IsAscii}
 use Rattle.std.proofs.lemmas.Str.Ascii.{IsAscii-from_all, IsAscii-cons, IsAscii-nil}
 use Rattle.std.proofs.lemmas.Str.{IsUtf8-append, IsUtf8-from_ascii}
 use Rattle.std.proofs.lemmas.Bool.Decides.{nat_tests}
+use Rattle.plain_laws.proofs.Filters.{flat_map_itself}
 use Rattle.cim_words.specs.IdText.{id_iri, id_text, is_id_character}
 use Rattle.cim_words.specs.Written.{is_iri_character, iri_spelling}
 use Rattle.cim_words.proofs.IdTexts.{id_iri-characters, id_text-characters}
 
-both : (a b : Bool) → (a && b) ≡ true → (a ≡ true) × (b ≡ true)
-both true b h = (refl, h)
-both false b h = absurd (let e : false ≡ true = h in cc)
-
 -- what may stand in an IRI is spelled as it is
 plain_spelling : (text : List ℕ) → list_all is_iri_character text ≡ true → flat_map iri_spelling text ≡ text
 unfolding iri_spelling
-plain_spelling [] all = refl
-plain_spelling (byte ∷ text) all =
-    let parts = both (is_iri_character byte) (list_all is_iri_character text) all in
-    rw (parts.0, plain_spelling text parts.1) refl
+plain_spelling text all = flat_map_itself is_iri_character iri_spelling (λ byte is. rw is refl) text all
 
 -- the IRI of an identifier is spelled as it is
 pub iri_spelling-id_iri : (n : ℕ) → flat_map iri_spelling (id_iri n) ≡ id_iri n

@@ -1,9 +1,11 @@
 -- When two statements are one, and what their parts say.
-use Rattle.std.proofs.Common.{◌≡◌, ℕ, ◌<◌, ◌^◌, List, Option, Some, None, [], ◌∷◌, Bool, cond, IsTrue, is_none, find, refl, ap, sym, ◌∙◌, rules, true, false}
+use Rattle.std.proofs.Common.{◌≡◌, ℕ, ◌<◌, ◌^◌, List, Option, Some, None, [], ◌∷◌, Bool, cond, IsTrue, find, refl, ap, sym, ◌∙◌, rules, true, false}
 use Rattle.std.proofs.Math.Bool.{Bool-set}
 use mathlib.Core.HLevel.{is_prop→PathP}
 use Rattle.std.specs.Str.{bytes_eq}
 use Rattle.std.proofs.lemmas.Slice.Eq.{bytes_eq-Decides}
+use Rattle.cim_words.specs.declared.identifier.Id.{Id}
+use Rattle.plain_laws.proofs.Options.{none_from_test}
 use Rattle.cim_words.specs.declared.known_prop.TheConstants.{KNOWN_PROPS}
 use Rattle.cim_words.specs.IdText.{iri_number, id_iri}
 use Rattle.cim_words.specs.KnownProp.{known_iri, known_prop}
@@ -17,6 +19,10 @@ use Rattle.cim_words.specs.declared.prop.Prop.TheVariants as prop
 use Rattle.cim_words.specs.declared.object.Object.TheVariants as object
 use Rattle.cim_words.specs.declared.statement.Statement.{Statement}
 use Rattle.cim_words.proofs.IdTexts.{iri_number-id_iri}
+
+-- identifiers with one number are one
+pub same_id : (i j : Id) → i.number ≡ j.number → i ≡ j
+same_id i j is k = record { number = is k }
 
 -- statements with the same subject, property and object are one
 pub same_statement : (a b : Statement) → a.subject ≡ b.subject → a.prop ≡ b.prop → a.object ≡ b.object → a ≡ b
@@ -52,21 +58,17 @@ known_prop-known_iri K18 = refl
 known_prop-known_iri K19 = refl
 known_prop-known_iri K20 = refl
 
-none_is : {X : Type 0} (o : Option X) → IsTrue (is_none o) → o ≡ None
-none_is None h = refl
-none_is (Some x) h = search rules
-
 -- a property is the one that its IRI names
 pub prop_of-prop_iri : (p : Prop) → IsTrue (is_proper_prop p) → prop_of (prop_iri p) ≡ p
 prop_of-prop_iri (prop.Known k) proper = rw (known_prop-known_iri k) refl
-prop_of-prop_iri (prop.Other text) proper = rw (none_is (known_prop text) proper) refl
+prop_of-prop_iri (prop.Other text) proper = rw (none_from_test (known_prop text) proper) refl
 
 -- an IRI names the identifier that it spells, and itself where it spells none
 pub object_of-id_iri : (n : ℕ) → n < 2 ^ 128 → object_of (id_iri n) ≡ object.Id (record { number = n })
 object_of-id_iri n fits = rw (iri_number-id_iri n fits) refl
 
 pub object_of-name : (text : List ℕ) → IsTrue (is_proper_object (object.Name text)) → object_of text ≡ object.Name text
-object_of-name text proper = rw (none_is (iri_number text) proper) refl
+object_of-name text proper = rw (none_from_test (iri_number text) proper) refl
 
 found_at : (rows : List KnownProp) (row : KnownProp) (text : List ℕ) (k : KnownProp) (b : Bool) → bytes_eq (known_iri row) text ≡ b
     → (find (λ k. bytes_eq (known_iri k) text) rows ≡ Some k → known_iri k ≡ text)

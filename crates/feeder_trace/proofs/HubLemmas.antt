@@ -1,48 +1,27 @@
 -- Places and sections by number.
-use Rattle.std.proofs.Common.{◌≡◌, ◌||◌, ◌&&◌, not, ◌⊎◌, ℕ, Bool, true, false, List, [], ◌∷◌, ◌<◌, length, position, Some, None, cond, nat_lt, ◌+◌, slice_get, get_or, IsTrue, eqb, eqb-true, refl, sym, ap, ap₂, ◌∙◌, subst, inl, inr, ⊎_elim, true≢false}
-use Rattle.std.specs.List.{position_or_len}
-use Rattle.std.proofs.lemmas.Bool.{cases_eq}
+use Rattle.std.proofs.Common.{◌≡◌, ◌||◌, ◌&&◌, not, ◌⊎◌, ℕ, Bool, true, false, List, ◌<◌, length, Some, slice_get, get_or, IsTrue, eqb, eqb-true, refl, sym, ap, ap₂, ◌∙◌, subst, inl, inr, ⊎_elim, true≢false}
+use Rattle.std.proofs.lemmas.Bool.{and_parts, cases_eq, or_cases, or_left, or_right}
 use Rattle.std.proofs.lemmas.List.Quantifiers.{position-Some}
 use Rattle.std.proofs.lemmas.Option.{same_Some, slice_get_within}
 use Rattle.cim_words.specs.Phases.{has_phase}
 use Rattle.cim_words.specs.declared.phases.Phase.{Phase}
 use Rattle.cim_words.specs.declared.phases.PhaseSet.{PhaseSet}
-use Rattle.room_words.specs.Terms.{same_anchor}
-use Rattle.room_words.specs.declared.anchor.Anchor.{Anchor}
-use Rattle.room_words.specs.declared.anchor.Anchor.TheVariants.{Node, Side}
 use Rattle.feeder_trace.specs.Hub.{same_hub}
 use Rattle.feeder_trace.specs.Hubs.{HubsView, GoesOver, HasNumber, IsGone}
 use Rattle.feeder_trace.specs.Marks.{Joins}
 use Rattle.feeder_trace.specs.declared.hub.Hub.{Hub}
 use Rattle.feeder_trace.specs.declared.hub.Hub.TheVariants.{Place, Section}
 use Rattle.feeder_trace.proofs.MarkLemmas.{slice_get-set_same, slice_get-set_other}
-use Rattle.feeder_trace.proofs.PhaseLemmas.{or_cases, or_left, or_right}
-use Rattle.feeder_trace.proofs.SpreadLemmas.{and_both}
-use Rattle.feeder_trace.proofs.TermLemmas.{same_id}
-
-anchor_exact : (a b : Anchor) → same_anchor a b ≡ true → a ≡ b
-anchor_exact (Node n) (Node m) h = ap Node (same_id n m h)
-anchor_exact (Node n) (Side item side) h = cc
-anchor_exact (Side item side) (Node n) h = cc
-anchor_exact (Side item side) (Side other part) h =
-    let parts = and_both (eqb item.number other.number) (eqb side part) h in
-    ap₂ Side (same_id item other parts.0) (eqb-true side part parts.1)
+use Rattle.cim_words.proofs.Statements.{same_id}
+use Rattle.room_words.proofs.Compared.{anchor_exact}
 
 pub hub_exact : (h k : Hub) → same_hub h k ≡ true → h ≡ k
 hub_exact (Place a) (Place b) e = ap Place (anchor_exact a b e)
 hub_exact (Place a) (Section segment n) e = cc
 hub_exact (Section segment n) (Place a) e = cc
 hub_exact (Section segment n) (Section other m) e =
-    let parts = and_both (eqb segment.number other.number) (eqb n m) e in
-    ap₂ Section (same_id segment other parts.0) (eqb-true n m parts.1)
-
-first_as : {X : Type 0} (f h : X → Bool) → ((x : X) → f x ≡ h x) → (xs : List X) → position_or_len f xs ≡ position_or_len h xs
-first_as f h agree [] = refl
-first_as f h agree (x ∷ xs) = ap₂ (λ (b : Bool) (n : ℕ). cond (not b) (1 + n) 0) (agree x) (first_as f h agree xs)
-
--- tests that agree find the same
-pub position_as : {X : Type 0} (f h : X → Bool) → ((x : X) → f x ≡ h x) → (xs : List X) → position f xs ≡ position h xs
-position_as f h agree xs = ap (λ (n : ℕ). cond (nat_lt n (length xs)) (Some n) None) (first_as f h agree xs)
+    let parts = and_parts (eqb segment.number other.number) (eqb n m) e in
+    ap₂ Section (same_id segment other (eqb-true segment.number other.number parts.0)) (eqb-true n m parts.1)
 
 -- two that have one number are one
 one_number : (v : HubsView) (h k : Hub) (i : ℕ) → HasNumber v h i → HasNumber v k i → h ≡ k

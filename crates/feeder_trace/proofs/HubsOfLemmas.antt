@@ -1,34 +1,29 @@
 -- The places and sections of a graph are put into a list, and get numbers.
 use Rattle.std.proofs.Common.{◌≡◌, ◌⊎◌, ◌<◌, ◌+◌, ◌∷◌, ◌++◌, [], ℕ, Bool, true, false, not, cond, zero, suc, List, Option, Some, None, Contains, length, map, take, get_or, position, eqb, eq-eqb, refl, sym, ap, ap₂, ◌∙◌, subst, inl, inr, ⊎_elim, arith, true≢false}
 use Rattle.std.specs.List.{list_any, position_or_len}
-use Rattle.std.proofs.lemmas.Bool.{cases_eq, lt-ltb}
+use Rattle.std.proofs.lemmas.Bool.{and_from, cases_eq, lt-ltb}
 use Rattle.std.proofs.lemmas.List.{take_more}
 use Rattle.std.proofs.lemmas.List.Elements.{Contains-append_left, Contains-push, Contains-push_cases}
+use Rattle.room_words.proofs.Compared.{anchor_itself}
+use Rattle.plain_laws.proofs.Members.{Among, contains_among}
+use Rattle.plain_laws.proofs.Options.{find_contains}
+use Rattle.plain_laws.proofs.Tests.{any_among}
 use Rattle.cim_words.specs.declared.identifier.Id.{Id}
-use Rattle.room_words.specs.Terms.{same_anchor}
 use Rattle.graph_pages.specs.Graph.{GraphView, star_in, star_of}
 use Rattle.graph_pages.specs.Walks.{line_in}
 use Rattle.graph_pages.specs.declared.star.Spoke.{Spoke}
 use Rattle.graph_pages.specs.declared.star.Star.{Star}
 use Rattle.room_words.specs.declared.anchor.Anchor.{Anchor}
-use Rattle.room_words.specs.declared.anchor.Anchor.TheVariants.{Node, Side}
 use Rattle.indexmap.specs.IndexSet.{insert_key}
 use Rattle.feeder_trace.specs.Hub.{same_hub}
 use Rattle.feeder_trace.specs.HubsOf.{Adds, HasAll, IsHubOf, IsPlaceOf, IsSectionOf, section_count}
 use Rattle.feeder_trace.specs.declared.hub.Hub.{Hub}
 use Rattle.feeder_trace.specs.declared.hub.Hub.TheVariants.{Place, Section}
 use Rattle.feeder_trace.proofs.HubLemmas.{hub_exact}
-use Rattle.feeder_trace.proofs.NumberingLemmas.{cons_here, cons_there, find_contains}
-use Rattle.feeder_trace.proofs.PhaseLemmas.{or_cases}
-use Rattle.feeder_trace.proofs.SpreadLemmas.{both_true}
-
-anchor_refl : (a : Anchor) → same_anchor a a ≡ true
-anchor_refl (Node n) = eq-eqb n.number n.number refl
-anchor_refl (Side item side) = both_true (eqb item.number item.number) (eqb side side) (eq-eqb item.number item.number refl) (eq-eqb side side refl)
 
 hub_refl : (h : Hub) → same_hub h h ≡ true
-hub_refl (Place place) = anchor_refl place
-hub_refl (Section segment n) = both_true (eqb segment.number segment.number) (eqb n n) (eq-eqb segment.number segment.number refl) (eq-eqb n n refl)
+hub_refl (Place place) = anchor_itself place
+hub_refl (Section segment n) = and_from (eqb segment.number segment.number) (eqb n n) (eq-eqb segment.number segment.number refl) (eq-eqb n n refl)
 
 -- ---- what is in a list has a number
 first_below : {X : Type 0} (test : X → Bool) (xs : List X) (k : ℕ) (d : X) → k < length xs → test (get_or xs k d) ≡ true → position_or_len test xs < length xs
@@ -49,11 +44,9 @@ number_in hubs hub (k, within, is) =
 -- ---- one is put in
 module _ (eq : Hub → Hub → Bool) (agrees : (h k : Hub) → eq h k ≡ same_hub h k) (hub : Hub) where
   any_contains : (hubs : List Hub) → list_any (eq hub) hubs ≡ true → Contains hubs hub
-  any_contains [] h = cc
-  any_contains (k ∷ ks) h = ⊎_elim
-      (λ l. subst (Contains (k ∷ ks)) (sym (hub_exact hub k (sym (agrees hub k) ∙ l))) (cons_here k ks))
-      (λ r. cons_there k ks hub (any_contains ks r))
-      (or_cases (eq hub k) (list_any (eq hub) ks) h)
+  any_contains hubs h =
+      let from = any_among (eq hub) hubs h in
+      contains_among hubs hub (subst (Among hubs) (sym (hub_exact hub from.0 (sym (agrees hub from.0) ∙ from.2))) from.1)
 
   put_by : (b : Bool) (hubs : List Hub) → list_any (eq hub) hubs ≡ b → Adds (λ other. other ≡ hub) hubs (cond b hubs (hubs ++ hub ∷ []))
   put_by true hubs is other h = ⊎_elim (λ l. l) (λ same. subst (Contains hubs) (sym same) (any_contains hubs is)) h

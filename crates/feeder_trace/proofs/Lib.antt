@@ -6,10 +6,8 @@ pub mod TermLemmas
 pub mod NumberingLemmas
 pub mod SpreadLemmas
 pub mod WalkLemmas
-pub mod LineLemmas
 pub mod RowLemmas
 pub mod PartLemmas
-pub mod TraceLemmas
 pub mod HubLemmas
 pub mod HubsOfLemmas
 pub mod OverLemmas

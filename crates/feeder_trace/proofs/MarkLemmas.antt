@@ -1,6 +1,6 @@
 -- How marks grow, about views alone.
 use Rattle.std.proofs.Common.{zero, suc, get_or-set_same, ◌≡◌, ◌≢◌, ◌<◌, ◌⊎◌, ℕ, true, false, not, ◌&&◌, ◌||◌, List, [], ◌∷◌, ◌++◌, length, Some, slice_get, get_or, set, IsTrue, Contains, refl, sym, ap, ◌∙◌, subst, inl, inr, ⊎_elim, arith, length-set, length-append, true≢false}
-use Rattle.std.proofs.lemmas.Bool.{cases_eq}
+use Rattle.std.proofs.lemmas.Bool.{cases_eq, or_cases, or_left, or_right}
 use Rattle.std.proofs.lemmas.List.Elements.{Contains-append_left, Contains-push, Contains-push_cases}
 use Rattle.std.proofs.lemmas.List.Sums.{sum_by-set}
 use Rattle.std.proofs.lemmas.Option.{slice_get-get_or, same_Some, slice_get_within, get_or_from_slice_get}
@@ -11,7 +11,7 @@ use Rattle.room_words.specs.declared.term.Point.{Point}
 use Rattle.room_words.specs.declared.term.Term.{Term}
 use Rattle.feeder_trace.specs.Numbering.{IsOwn}
 use Rattle.feeder_trace.specs.Search.{SearchView, IsMarked, MarksAll, AtTerm, lacking}
-use Rattle.feeder_trace.proofs.PhaseLemmas.{fewer_lack, new_phase, new_apart, new_is, or_left, or_right, or_cases}
+use Rattle.feeder_trace.proofs.PhaseLemmas.{fewer_lack, new_phase, new_apart, new_is}
 
 pub slice_get-set_same : {X : Type 0} (xs : List X) (i : ℕ) (y : X) → i < length xs → slice_get (set xs i y) i ≡ Some y
 slice_get-set_same xs i y within =

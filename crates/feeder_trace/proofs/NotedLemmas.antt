@@ -2,7 +2,7 @@
 use Rattle.std.proofs.Common.{take, IsTrue, replicate, ◌≡◌, ◌||◌, ◌+◌, ◌<◌, ◌≤◌, ℕ, Bool, true, false, cond, List, [], ◌∷◌, ◌++◌, length, Some, slice_get, get_or, set, Contains, count_by, sum_by, Vec, refl, sym, ap, ◌∙◌, subst, ⊎_elim, arith, length-set, length-append}
 use Rattle.std.specs.Vec.{vec_capacity}
 use Rattle.std.specs.declared.alloc.Global.{Global}
-use Rattle.std.proofs.lemmas.Bool.{cases_eq}
+use Rattle.std.proofs.lemmas.Bool.{cases_eq, or_right}
 use Rattle.std.proofs.lemmas.List.{get_or-replicate, length-replicate, take_more}
 use Rattle.std.proofs.lemmas.List.Elements.{Contains-append_left, Contains-push, Contains-push_cases}
 use Rattle.std.proofs.lemmas.List.Sums.{sum_by-set, get_or-le-sum_by, count_by-le-length}
@@ -15,7 +15,7 @@ use Rattle.feeder_trace.specs.Marks.{IsSet}
 use Rattle.feeder_trace.specs.Noted.{AreNoted}
 use Rattle.feeder_trace.specs.declared.marks.Marks.TheInside.{Inside}
 use Rattle.feeder_trace.proofs.MarkLemmas.{slice_get-set_same, slice_get-set_other}
-use Rattle.feeder_trace.proofs.PhaseLemmas.{no_phase, filled, some_phase, or_right}
+use Rattle.feeder_trace.proofs.PhaseLemmas.{no_phase, filled, some_phase}
 
 -- there is room for a number under which nothing stood
 pub room_to_note : (m : Inside) → AreNoted m → (i : ℕ) (before : PhaseSet) → slice_get m.sets.items i ≡ Some before → has_no_phase before ≡ true → length m.visited.items < vec_capacity m.visited

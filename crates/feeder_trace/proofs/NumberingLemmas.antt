@@ -1,13 +1,15 @@
 -- Lists of terminals with their phases.
-use Rattle.std.proofs.Common.{Bor, eqb, map, take, IsTrue, ◌⊎◌, inl, inr, ⊎_elim, find, is_some, zero, suc, ◌≡◌, ◌<◌, ◌+◌, ℕ, Bool, true, false, cond, List, [], ◌∷◌, ◌++◌, length, Option, Some, None, slice_get, get_or, position, Contains, refl, sym, ap, ◌∙◌, subst, arith}
+use Rattle.std.proofs.Common.{Bor, eqb, map, take, IsTrue, inl, inr, ⊎_elim, find, is_some, ◌≡◌, ◌<◌, ◌+◌, ℕ, Bool, true, false, cond, List, [], ◌∷◌, ◌++◌, length, Option, Some, None, slice_get, get_or, position, Contains, refl, sym, ap, ◌∙◌, subst, option_map}
 use Rattle.std.specs.List.{IsDistinct}
 use Rattle.std.specs.Map.{lookup, keys_of, values_of}
 use Rattle.std.proofs.lemmas.List.Quantifiers.{position-Some}
 use Rattle.std.proofs.lemmas.Map.Views.{lookup-from_Contains}
-use Rattle.std.proofs.lemmas.Option.{same_Some}
+use Rattle.std.proofs.lemmas.Option.{get_or_from_slice_get, same_Some, slice_get-map, slice_get_within}
 use Rattle.indexmap.specs.IndexMap.{insert_entry}
-use Rattle.std.proofs.lemmas.List.{take_more}
-use Rattle.std.proofs.lemmas.List.Elements.{Contains-get_or, Contains-append_right, Contains-append_cases, Contains-push_cases}
+use Rattle.std.proofs.lemmas.List.{get_or-map, map_push, take_more}
+use Rattle.std.proofs.lemmas.List.Elements.{Contains-push_cases}
+use Rattle.plain_laws.proofs.Members.{contains_cases, contains_first, contains_nothing, contains_rest}
+use Rattle.plain_laws.proofs.Options.{find_among, find_contains}
 use Rattle.cim_model.specs.Reach.{IsPoint}
 use Rattle.cim_words.specs.PhaseNames.{and_then}
 use Rattle.cim_words.specs.Phases.{has_phase}
@@ -18,23 +20,14 @@ use Rattle.room_words.specs.declared.term.Point.{Point}
 use Rattle.graph_pages.specs.declared.star.Spoke.{Spoke}
 use Rattle.graph_pages.specs.declared.star.Star.{Star}
 use Rattle.feeder_trace.specs.Numbering.{IsTrueTo, IsNumbered, IsOwn, Enters, EntersSpokes}
-use Rattle.feeder_trace.proofs.LineLemmas.{find_passes}
-use Rattle.feeder_trace.proofs.SpreadLemmas.{contains_nothing}
 use Rattle.feeder_trace.proofs.PhaseLemmas.{no_phase}
-use Rattle.feeder_trace.proofs.TermLemmas.{term_exact}
+use Rattle.room_words.proofs.Compared.{term_exact}
 use Rattle.room_words.specs.Terms.{same_term}
 use Rattle.room_words.specs.declared.term.Term.{Term}
 use Rattle.feeder_trace.proofs.TermLemmas.{exact_by, laws_by}
 
-get_or-map : {X Y : Type 0} (f : X → Y) (xs : List X) (i : ℕ) (x : X) → slice_get xs i ≡ Some x → get_or (map f xs) i (f x) ≡ f x
-get_or-map f [] i x h = refl
-get_or-map f (y ∷ ys) zero x h = ap f (same_Some y x h)
-get_or-map f (y ∷ ys) (suc i) x h = get_or-map f ys i x h
-
 pub values_at : (entries : List (Term × PhaseSet)) (i : ℕ) (entry : Term × PhaseSet) → slice_get entries i ≡ Some entry → slice_get (values_of entries) i ≡ Some entry.1
-values_at [] i entry h = cc
-values_at (e ∷ es) zero entry h = ap (λ (x : Term × PhaseSet). Some x.1) (same_Some e entry h)
-values_at (e ∷ es) (suc i) entry h = values_at es i entry h
+values_at entries i entry h = slice_get-map (λ (e : Term × PhaseSet). e.1) entries i ∙ ap (option_map (λ (e : Term × PhaseSet). e.1)) h
 
 pub none_from_is_some : {X : Type 0} (o : Option X) → false ≡ is_some o → o ≡ None
 none_from_is_some None h = refl
@@ -45,7 +38,7 @@ module _ (eq : Term → Term → Bool) (agrees : (t u : Term) → eq t u ≡ sam
   pub found_at : (i : ℕ) (entry : Term × PhaseSet) → position (eq t) (keys_of entries) ≡ Some i → slice_get entries i ≡ Some entry → entry.0 ≡ t
   found_at i entry at is =
       let passes = (position-Some (eq t) (keys_of entries) i entry.0 at).1 in
-      let key : get_or (keys_of entries) i entry.0 ≡ entry.0 = get_or-map (λ (e : Term × PhaseSet). e.0) entries i entry is in
+      let key : get_or (keys_of entries) i entry.0 ≡ entry.0 = get_or-map (λ (e : Term × PhaseSet). e.0) entries i entry entry.0 (slice_get_within entries i entry is) ∙ ap (λ (e : Term × PhaseSet). e.0) (get_or_from_slice_get entries i entry entry is) in
       sym (exact_by eq agrees t entry.0 (sym (ap (eq t) key) ∙ passes))
 
   pub found_none : lookup (eq t) entries ≡ None → IsDistinct eq (keys_of entries) → (phases : PhaseSet) → Contains entries (t, phases) → ⊥
@@ -56,57 +49,44 @@ module _ (eq : Term → Term → Bool) (agrees : (t u : Term) → eq t u ≡ sam
   pub found_every : (own phases : PhaseSet) → lookup (eq t) entries ≡ Some own → IsDistinct eq (keys_of entries) → Contains entries (t, phases) → own ≡ phases
   found_every own phases found unique has = same_Some own phases (sym found ∙ lookup-from_Contains (laws_by eq agrees) t phases entries unique has)
 
-cons_cases : {X : Type 0} (x : X) (xs : List X) (y : X) → Contains (x ∷ xs) y → (x ≡ y) ⊎ Contains xs y
-cons_cases x xs y h = ⊎_elim (λ l. ⊎_elim (λ e. contains_nothing y e) inl (Contains-push_cases [] x y l)) inr (Contains-append_cases (x ∷ []) xs y h)
-
-pub cons_here : {X : Type 0} (x : X) (xs : List X) → Contains (x ∷ xs) x
-cons_here x xs = Contains-get_or (x ∷ xs) 0 x (omega arith)
-
-pub cons_there : {X : Type 0} (x : X) (xs : List X) (y : X) → Contains xs y → Contains (x ∷ xs) y
-cons_there x xs y h = Contains-append_right (x ∷ []) xs y h
-
 module _ (eq : Term → Term → Bool) (agrees : (t u : Term) → eq t u ≡ same_term t u) (t : Term) (phases : PhaseSet) where
   enters_at : (b : Bool) (e : Term × PhaseSet) (es : List (Term × PhaseSet)) → eq t e.0 ≡ b → Enters t phases es (insert_entry eq es t phases) → Enters t phases (e ∷ es) (cond b ((e.0, phases) ∷ es) (e ∷ insert_entry eq es t phases))
   enters_at true e es is rest =
       let same : t ≡ e.0 = exact_by eq agrees t e.0 is in
       record {
-        has = subst (λ (u : Term). Contains ((e.0, phases) ∷ es) (u, phases)) (sym same) (cons_here (e.0, phases) es);
-        kept = λ u own h. ⊎_elim (λ l. inr (sym (ap (λ (x : Term × PhaseSet). x.0) l) ∙ sym same)) (λ r. inl (cons_there (e.0, phases) es (u, own) r)) (cons_cases e es (u, own) h);
+        has = subst (λ (u : Term). Contains ((e.0, phases) ∷ es) (u, phases)) (sym same) (contains_first (e.0, phases) es);
+        kept = λ u own h. ⊎_elim (λ l. inr (sym (ap (λ (x : Term × PhaseSet). x.0) l) ∙ sym same)) (λ r. inl (contains_rest (e.0, phases) es (u, own) r)) (contains_cases e es (u, own) h);
         only = λ u own h. ⊎_elim
             (λ l. inr (sym (ap (λ (x : Term × PhaseSet). x.0) l) ∙ sym same, sym (ap (λ (x : Term × PhaseSet). x.1) l)))
-            (λ r. inl (cons_there e es (u, own) r))
-            (cons_cases (e.0, phases) es (u, own) h);
+            (λ r. inl (contains_rest e es (u, own) r))
+            (contains_cases (e.0, phases) es (u, own) h);
       }
   enters_at false e es is rest = record {
-    has = cons_there e (insert_entry eq es t phases) (t, phases) rest.has;
+    has = contains_rest e (insert_entry eq es t phases) (t, phases) rest.has;
     kept = λ u own h. ⊎_elim
-        (λ l. inl (subst (Contains (e ∷ insert_entry eq es t phases)) l (cons_here e (insert_entry eq es t phases))))
-        (λ r. ⊎_elim (λ l. inl (cons_there e (insert_entry eq es t phases) (u, own) l)) inr (rest.kept u own r))
-        (cons_cases e es (u, own) h);
+        (λ l. inl (subst (Contains (e ∷ insert_entry eq es t phases)) l (contains_first e (insert_entry eq es t phases))))
+        (λ r. ⊎_elim (λ l. inl (contains_rest e (insert_entry eq es t phases) (u, own) l)) inr (rest.kept u own r))
+        (contains_cases e es (u, own) h);
     only = λ u own h. ⊎_elim
-        (λ l. inl (subst (Contains (e ∷ es)) l (cons_here e es)))
-        (λ r. ⊎_elim (λ l. inl (cons_there e es (u, own) l)) inr (rest.only u own r))
-        (cons_cases e (insert_entry eq es t phases) (u, own) h);
+        (λ l. inl (subst (Contains (e ∷ es)) l (contains_first e es)))
+        (λ r. ⊎_elim (λ l. inl (contains_rest e es (u, own) l)) inr (rest.only u own r))
+        (contains_cases e (insert_entry eq es t phases) (u, own) h);
   }
 
   pub enters : (es : List (Term × PhaseSet)) → Enters t phases es (insert_entry eq es t phases)
   enters [] = record {
-    has = cons_here (t, phases) [];
+    has = contains_first (t, phases) [];
     kept = λ u own h. contains_nothing (u, own) h;
     only = λ u own h. ⊎_elim
         (λ l. inr (sym (ap (λ (x : Term × PhaseSet). x.0) l), sym (ap (λ (x : Term × PhaseSet). x.1) l)))
         (λ r. contains_nothing (u, own) r)
-        (cons_cases (t, phases) [] (u, own) h);
+        (contains_cases (t, phases) [] (u, own) h);
   }
   enters (e ∷ es) = enters_at (eq t e.0) e es refl (enters es)
 
 -- the terminals of some spokes, and one more
 pub enters_none : (g : GraphView) (spokes : List Spoke) (a : List (Term × PhaseSet)) → EntersSpokes g (take 0 spokes) a a
 enters_none g spokes a true_to = (true_to, λ t h. ⊎_elim (λ l. l) (λ r. contains_nothing t r) h)
-
-map_push : (spokes : List Spoke) (s : Spoke) → map (λ (spoke : Spoke). spoke.term) (spokes ++ s ∷ []) ≡ map (λ (spoke : Spoke). spoke.term) spokes ++ s.term ∷ []
-map_push [] s = refl
-map_push (x ∷ xs) s = ap (λ (ts : List Term). x.term ∷ ts) (map_push xs s)
 
 enters_push : (g : GraphView) (spokes : List Spoke) (s : Spoke) (phases : PhaseSet) (a b c : List (Term × PhaseSet)) → EntersSpokes g spokes a b → phases ≡ phases_at g s.term → Enters s.term phases b c → EntersSpokes g (spokes ++ s ∷ []) a c
 enters_push g spokes s phases a b c first is then true_to =
@@ -121,7 +101,7 @@ enters_push g spokes s phases a b c first is then true_to =
           (λ r. ⊎_elim
           (λ l. keeps t (before.1 t (inr l)))
           (λ same. subst (λ (u : Term). Contains c (u, phases_at g u)) same (subst (λ (set : PhaseSet). Contains c (s.term, set)) is then.has))
-          (Contains-push_cases (map (λ (spoke : Spoke). spoke.term) spokes) s.term t (subst (λ (ts : List Term). Contains ts t) (map_push spokes s) r)))
+          (Contains-push_cases (map (λ (spoke : Spoke). spoke.term) spokes) s.term t (subst (λ (ts : List Term). Contains ts t) (map_push (λ (spoke : Spoke). spoke.term) spokes s) r)))
           h,
     )
 
@@ -152,26 +132,18 @@ stars_more g stars star a b before enters_all =
           (Contains-push_cases stars star other h);
     }
 
-pub find_contains : {X : Type 0} (test : X → Bool) (xs : List X) (x : X) → find test xs ≡ Some x → Contains xs x
-find_contains test [] x h = cc
-find_contains {X} test (y ∷ ys) x h = by (test y) h (find_contains test ys x)
-  where
-    by : (b : Bool) → ◌≡◌ {A = Option X} (cond b (Some y) (find test ys)) (Some x) → (find test ys ≡ Some x → Contains ys x) → Contains (y ∷ ys) x
-    by true h rest = subst (Contains (y ∷ ys)) (same_Some y x h) (cons_here y ys)
-    by false h rest = cons_there y ys x (rest h)
-
 contains_term : (spokes : List Spoke) (spoke : Spoke) → Contains spokes spoke → Contains (map (λ (s : Spoke). s.term) spokes) spoke.term
 contains_term [] spoke h = contains_nothing spoke h
 contains_term (s ∷ ss) spoke h = ⊎_elim
-    (λ l. subst (λ (t : Term). Contains (s.term ∷ map (λ (s : Spoke). s.term) ss) t) (ap (λ (s : Spoke). s.term) l) (cons_here s.term (map (λ (s : Spoke). s.term) ss)))
-    (λ r. cons_there s.term (map (λ (s : Spoke). s.term) ss) spoke.term (contains_term ss spoke r))
-    (cons_cases s ss spoke h)
+    (λ l. subst (λ (t : Term). Contains (s.term ∷ map (λ (s : Spoke). s.term) ss) t) (ap (λ (s : Spoke). s.term) l) (contains_first s.term (map (λ (s : Spoke). s.term) ss)))
+    (λ r. contains_rest s.term (map (λ (s : Spoke). s.term) ss) spoke.term (contains_term ss spoke r))
+    (contains_cases s ss spoke h)
 
 module _ (g : GraphView) (stars : List Star) (terminals : List (Term × PhaseSet)) (same : (x : ℕ) → star_in stars x ≡ star_of g x) (all : EntersStars g stars terminals) (a : Point) (point : IsPoint (wiring g) a) where
   own_spoke : (star : Star) → star_of g a.term.owner.number ≡ Some star → (o : Option Spoke) → find (λ (spoke : Spoke). same_term spoke.term a.term) star.spokes ≡ o → spoke_of g a.term ≡ o → IsOwn terminals a
   own_spoke star at None is spoke = absurd (no_phase a.phase (subst (λ (set : PhaseSet). IsTrue (has_phase set a.phase)) (ap (listed_phases g) spoke) point))
   own_spoke star at (Some spoke) is has =
-      let here : spoke.term ≡ a.term = term_exact spoke.term a.term (find_passes (λ (spoke : Spoke). same_term spoke.term a.term) star.spokes spoke is) in
+      let here : spoke.term ≡ a.term = term_exact spoke.term a.term (find_among (λ (spoke : Spoke). same_term spoke.term a.term) star.spokes spoke is).1 in
       let stands = contains_term star.spokes spoke (find_contains (λ (spoke : Spoke). same_term spoke.term a.term) star.spokes spoke is) in
       (phases_at g a.term, all.has star (find_contains (λ (star : Star). eqb star.id.number a.term.owner.number) stars star (same a.term.owner.number ∙ at)) a.term (subst (HasSpoke star) here stands), point)
 

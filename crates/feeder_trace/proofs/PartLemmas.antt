@@ -5,6 +5,8 @@ use Rattle.std.specs.declared.alloc.Global.{Global}
 use Rattle.std.proofs.lemmas.List.{take_more}
 use Rattle.std.proofs.lemmas.List.Elements.{Contains-append_left, Contains-push, Contains-push_cases}
 use Rattle.std.proofs.lemmas.Option.{same_Some}
+use Rattle.std.proofs.lemmas.Bool.{and_from, and_parts}
+use Rattle.plain_laws.proofs.Members.{contains_nothing}
 use Rattle.cim_words.specs.Phases.{has_phase}
 use Rattle.cim_words.specs.declared.identifier.Id.{Id}
 use Rattle.cim_words.specs.declared.phases.Phase.{Phase}
@@ -17,7 +19,6 @@ use Rattle.room_words.specs.declared.term.Term.{Term}
 use Rattle.feeder_trace.specs.Rows.{AddsParts, Counted, HavePhases}
 use Rattle.feeder_trace.specs.Search.{SearchView, IsAt, IsSet}
 use Rattle.feeder_trace.proofs.RowLemmas.{lists_in, lists_out}
-use Rattle.feeder_trace.proofs.SpreadLemmas.{and_both, both_true, contains_nothing}
 
 -- one part
 pub parts_push : (id : Id) (phases : PhaseSet) (old new : Vec Row Global) (p : Phase) → IsTrue (has_phase phases p) → new.items ≡ old.items ++ (id, phases) ∷ [] → vec_len new ≡ vec_len old + 1 → vec_capacity old ≤ vec_capacity new → AddsParts (λ y q. (id.number ≡ y) × IsTrue (has_phase phases q)) 1 old new
@@ -37,7 +38,7 @@ parts_both g t star segment reached met line a b c at on is meets first then = r
     λ l. ⊎_elim
         (λ l. ⊎_elim inl (λ h. inr (inl h.0, h.1)) ((first.lists y p).0 l))
         (λ h.
-        let both = and_both (has_phase reached p) (has_phase line p) (sym (meets p) ∙ h.1) in
+        let both = and_parts (has_phase reached p) (has_phase line p) (sym (meets p) ∙ h.1) in
         let of_line : IsTrue (has_phase (line_phases (line_of g y)) p) = subst (λ n. IsTrue (has_phase (line_phases (line_of g n)) p)) h.0 (subst (λ (s : PhaseSet). IsTrue (has_phase s p)) is both.1) in
         inr (inr (star, at, ap (option_map (λ (on : Id). on.number)) on ∙ ap Some h.0, of_line), both.0))
         ((then.lists y p).0 l),
@@ -49,7 +50,7 @@ parts_both g t star segment reached met line a b c at on is meets first then = r
         let same : star' ≡ star = same_Some star' star (sym at' ∙ at) in
         let number : segment.number ≡ y = same_Some segment.number y (ap (option_map (λ (on : Id). on.number)) (sym on ∙ ap (λ (s : Star). s.on) (sym same)) ∙ on') in
         let in_line : IsTrue (has_phase line p) = subst (λ (s : PhaseSet). IsTrue (has_phase s p)) (sym is) (subst (λ n. IsTrue (has_phase (line_phases (line_of g n)) p)) (sym number) of_line) in
-        inr (number, meets p ∙ both_true (has_phase reached p) (has_phase line p) new.1 in_line))
+        inr (number, meets p ∙ and_from (has_phase reached p) (has_phase line p) new.1 in_line))
         new.0)
         h),
   );

@@ -1,5 +1,5 @@
 -- Sets of phases, phase by phase.
-use Rattle.std.proofs.Common.{◌≡◌, ◌≤◌, ◌+◌, ℕ, Bool, true, false, cond, not, ◌&&◌, ◌||◌, IsTrue, refl, arith, ◌⊎◌, inl, inr}
+use Rattle.std.proofs.Common.{◌≡◌, ◌≤◌, ◌+◌, ℕ, Bool, true, false, cond, not, ◌&&◌, ◌||◌, IsTrue, refl, arith}
 use Rattle.cim_model.specs.Phases.{no_phases}
 use Rattle.cim_words.specs.Phases.{has_phase, has_no_phase}
 use Rattle.cim_words.specs.declared.phases.Phase.{Phase}
@@ -98,18 +98,6 @@ lacking_most set = omega (arith, at_most set.a, at_most set.b, at_most set.c, at
     at_most : (b : Bool) → cond b 0 1 ≤ 1
     at_most true = omega arith
     at_most false = omega arith
-
-pub or_left : (a b : Bool) → a ≡ true → (a || b) ≡ true
-or_left true b h = refl
-or_left false b h = cc
-
-pub or_right : (a b : Bool) → b ≡ true → (a || b) ≡ true
-or_right true b h = refl
-or_right false b h = h
-
-pub or_cases : (a b : Bool) → (a || b) ≡ true → (a ≡ true) ⊎ (b ≡ true)
-or_cases true b h = inl refl
-or_cases false b h = inr h
 
 pub no_phase : (p : Phase) → IsTrue (has_phase no_phases p) → ⊥
 no_phase A h = cc

@@ -1,6 +1,6 @@
 -- How the points to which current goes on are marked, step by step.
-use Rattle.std.proofs.Common.{find, ◌&&◌, ◌≡◌, ◌+◌, ◌<◌, ◌⊎◌, ℕ, Bool, true, false, not, List, [], ◌∷◌, ◌++◌, length, map, take, get_or, Option, Some, None, IsTrue, Contains, refl, sym, ap, ◌∙◌, subst, inl, inr, ⊎_elim, arith}
-use Rattle.std.proofs.lemmas.List.{take_more}
+use Rattle.std.proofs.Common.{find, ◌&&◌, ◌≡◌, ◌+◌, ◌<◌, ◌⊎◌, ℕ, Bool, false, not, List, [], ◌∷◌, ◌++◌, length, map, take, get_or, Option, Some, None, IsTrue, Contains, refl, sym, ap, ◌∙◌, subst, inl, inr, ⊎_elim}
+use Rattle.std.proofs.lemmas.List.{map_push, take_more}
 use Rattle.std.proofs.lemmas.List.Elements.{Contains-append_left, Contains-push, Contains-push_cases}
 use Rattle.cim_words.specs.Phases.{has_phase}
 use Rattle.cim_words.specs.declared.phases.PhaseSet.{PhaseSet}
@@ -10,32 +10,22 @@ use Rattle.cim_model.specs.Links.{lets_through}
 use Rattle.cim_model.specs.Phases.{Transforms}
 use Rattle.graph_pages.specs.Graph.{GraphView, star_of}
 use Rattle.room_words.specs.Terms.{same_term}
-use Rattle.graph_pages.specs.Walks.{Line, HasSpoke, Passes, line_at, line_in, own_or_on, place_at, spoke_of}
+use Rattle.graph_pages.specs.Walks.{HasSpoke, Line, Passes, line_at, line_in, line_phases, listed_phases, own_or_on, phases_at, place_at, spoke_of, spoke_phases}
 use Rattle.room_words.specs.declared.term.Point.{Point}
 use Rattle.graph_pages.specs.declared.star.Pass.{Pass}
 use Rattle.graph_pages.specs.declared.star.Pass.TheVariants as pass
 use Rattle.graph_pages.specs.declared.star.Star.{Star}
 use Rattle.std.proofs.lemmas.Option.{same_Some}
+use Rattle.std.proofs.lemmas.Bool.{and_from, and_parts}
+use Rattle.room_words.proofs.Compared.{term_exact}
+use Rattle.graph_pages.specs.declared.star.SpokePhases.TheVariants.{OfSegment}
+use Rattle.plain_laws.proofs.Members.{contains_nothing}
+use Rattle.plain_laws.proofs.Options.{find_among, some_none}
 use Rattle.graph_pages.specs.declared.star.Spoke.{Spoke}
 use Rattle.room_words.specs.declared.term.Term.{Term}
 use Rattle.feeder_trace.specs.Search.{SearchView, MarksAll, AtTerm}
 use Rattle.feeder_trace.specs.Spread.{AmongMembers, AmongSpokes, AtPlaceOf, AlongLineOf, InSectionOf, InSections, JoinedFrom, PassedFrom}
 use Rattle.feeder_trace.proofs.MarkLemmas.{marks_nothing, marks_more, marks_as}
-
-some_none : {X : Type 0} (x : X) → ◌≡◌ {A = Option X} (Some x) None → ⊥
-some_none x e = cc
-
-pub and_both : (a b : Bool) → (a && b) ≡ true → (a ≡ true) × (b ≡ true)
-and_both true true h = (refl, refl)
-and_both true false h = cc
-and_both false b h = cc
-
-pub both_true : (a b : Bool) → a ≡ true → b ≡ true → (a && b) ≡ true
-both_true true b x y = y
-both_true false b x y = cc
-
-pub contains_nothing : {X P : Type 0} (x : X) → Contains [] x → P
-contains_nothing x (k, below, is) = absurd (omega arith)
 
 pub members_none : (members : List Term) (phases : PhaseSet) (v : SearchView) → MarksAll (AmongMembers (take 0 members) phases) v v
 members_none members phases v = marks_nothing (AmongMembers (take 0 members) phases) v (λ a h own. contains_nothing a.term h.0)
@@ -58,15 +48,11 @@ terms spokes = map (λ (spoke : Spoke). spoke.term) spokes
 pub spokes_none : (spokes : List Spoke) (except : Option Term) (phases : PhaseSet) (v : SearchView) → MarksAll (AmongSpokes (take 0 spokes) except phases) v v
 spokes_none spokes except phases v = marks_nothing (AmongSpokes (take 0 spokes) except phases) v (λ a h own. contains_nothing a.term h.0)
 
-map_push : (spokes : List Spoke) (s : Spoke) → map (λ (spoke : Spoke). spoke.term) (spokes ++ s ∷ []) ≡ map (λ (spoke : Spoke). spoke.term) spokes ++ s.term ∷ []
-map_push [] s = refl
-map_push (x ∷ xs) s = ap (λ (ts : List Term). x.term ∷ ts) (map_push xs s)
-
 spokes_push : (spokes : List Spoke) (s : Spoke) (except : Option Term) (phases : PhaseSet) (a b c : SearchView) → MarksAll (AmongSpokes spokes except phases) a b
     → MarksAll (λ x. AtTerm s.term phases x × (Some s.term ≡ except → ⊥)) b c → MarksAll (AmongSpokes (spokes ++ s ∷ []) except phases) a c
 spokes_push spokes s except phases a b c first then =
     let ts : List Term = map (λ (spoke : Spoke). spoke.term) spokes in
-    let grown = map_push spokes s in
+    let grown = map_push (λ (spoke : Spoke). spoke.term) spokes s in
     marks_as (λ x. AmongSpokes spokes except phases x ⊎ (AtTerm s.term phases x × (Some s.term ≡ except → ⊥))) (AmongSpokes (spokes ++ s ∷ []) except phases) a c
     (λ x h. ⊎_elim
     (λ l. (subst (λ (us : List Term). Contains us x.term) (sym grown) (Contains-append_left ts (s.term ∷ []) x.term l.0), l.1, l.2))
@@ -149,10 +135,10 @@ pub section_marks : (line : Line) (t : Term) (phases met : PhaseSet) (a b : Sear
 section_marks line t phases met a b meets =
     marks_as (InSections line.sections t met) (InSectionOf line t phases) a b
     (λ x (section, stands, from, to, asked).
-    let both = and_both (has_phase phases x.phase) (has_phase line.phases x.phase) (sym (meets x.phase) ∙ asked) in
+    let both = and_parts (has_phase phases x.phase) (has_phase line.phases x.phase) (sym (meets x.phase) ∙ asked) in
     (x.phase, both.0, (section, stands, from, to, both.1, refl)))
     (λ x (p, asked, (section, stands, from, to, of_line, same)) own.
-    (section, stands, from, to, subst (λ (q : Phase). IsTrue (has_phase met q)) same (meets p ∙ both_true (has_phase phases p) (has_phase line.phases p) asked of_line)))
+    (section, stands, from, to, subst (λ (q : Phase). IsTrue (has_phase met q)) same (meets p ∙ and_from (has_phase phases p) (has_phase line.phases p) asked of_line)))
 
 pub line_marks : (g : GraphView) (t : Term) (phases : PhaseSet) (line : Line) (a b : SearchView) → line_at g t ≡ Some line → MarksAll (InSectionOf line t phases) a b → MarksAll (AlongLineOf g t phases) a b
 line_marks g t phases line a b at =
@@ -233,3 +219,12 @@ no_star g t phases v none =
     (λ l. some_none l.0 (sym l.1 ∙ none))
     h)
     joined))
+
+-- the phases of a terminal that takes them from its line
+pub segment_phases : (g : GraphView) (t : Term) (star : Star) (spoke : Spoke) (o : Option Line) → star_of g t.owner.number ≡ Some star → Some spoke ≡ find (λ (spoke : Spoke). same_term spoke.term t) star.spokes → spoke.phases ≡ OfSegment → o ≡ own_or_on g star (line_in star.pass) → phases_at g t ≡ line_phases o
+segment_phases g t star spoke o at is takes line =
+    let same : spoke.term ≡ t = term_exact spoke.term t (find_among (λ (spoke : Spoke). same_term spoke.term t) star.spokes spoke (sym is)).1 in
+    ap (listed_phases g) (spoke_is g t star (Some spoke) at is)
+    ∙ ap (spoke_phases g spoke.term) takes
+    ∙ ap (λ (u : Term). line_phases (line_at g u)) same
+    ∙ ap line_phases (line_is g t star o at line)

@@ -1,8 +1,11 @@
 -- What a search over the points of a graph keeps, and what it has marked when nothing waits.
-use Rattle.std.proofs.Common.{slice_get, Option, ◌≡◌, ◌⊎◌, ◌+◌, ◌<◌, ℕ, List, [], ◌∷◌, ◌++◌, length, Some, None, IsTrue, Contains, refl, sym, ap, ◌∙◌, subst, inl, inr, ⊎_elim, arith, length-append}
+use Rattle.std.proofs.Common.{slice_get, ◌≡◌, ◌⊎◌, ◌+◌, ◌<◌, ℕ, List, [], ◌∷◌, ◌++◌, length, Some, None, IsTrue, Contains, sym, ap, ◌∙◌, subst, inl, inr, ⊎_elim, arith, length-append}
 use Rattle.std.proofs.lemmas.List.Elements.{Contains-append_left, Contains-push, Contains-push_cases}
 use Rattle.std.proofs.lemmas.Option.{same_Some}
-use Rattle.cim_model.specs.Reach.{IsPoint, IsPointReached, IsStart, Leads, Linked, Reaches}
+use Rattle.cim_model.proofs.WalkInduction.{reached_is_point, reaches_induction, reaches_start, reaches_step}
+use Rattle.plain_laws.proofs.Members.{contains_nothing}
+use Rattle.plain_laws.proofs.Options.{some_none}
+use Rattle.cim_model.specs.Reach.{IsPoint, IsPointReached, IsStart, Linked}
 use Rattle.cim_words.specs.Phases.{has_phase}
 use Rattle.cim_words.specs.declared.phases.Phase.{Phase}
 use Rattle.cim_words.specs.declared.phases.PhaseSet.{PhaseSet}
@@ -14,29 +17,6 @@ use Rattle.room_words.specs.declared.term.Term.{Term}
 use Rattle.feeder_trace.specs.Numbering.{IsOwn, IsNumbered}
 use Rattle.feeder_trace.specs.Search.{SearchView, IsSet, IsMarked, IsPopped, MarksAll, Waits, unmarked}
 use Rattle.feeder_trace.specs.Spread.{AmongSpokes, JoinedFrom}
-use Rattle.feeder_trace.proofs.SpreadLemmas.{contains_nothing}
-
-some_none : {X : Type 0} (x : X) → ◌≡◌ {A = Option X} (Some x) None → ⊥
-some_none x e = cc
-
-leads_step : {V : Type 0} (link : V → V → Type 0) (a : V) (cs : List V) (b c : V) → Leads link a cs b → link b c → Leads link a (cs ++ c ∷ []) c
-leads_step link a [] b c along next = (subst (λ x. link x c) (sym along) next, refl)
-leads_step link a (d ∷ ds) b c along next = (along.0, leads_step link d ds b c along.1 next)
-
--- each start is reached, and what is linked from a reached point
-pub reaches_start : {V : Type 0} (link : V → V → Type 0) (start : V → Type 0) (a : V) → start a → Reaches link start a
-reaches_start link start a begins = (a, begins, [], refl)
-
-pub reaches_step : {V : Type 0} (link : V → V → Type 0) (start : V → Type 0) (b c : V) → Reaches link start b → link b c → Reaches link start c
-reaches_step link start b c r next = (r.0, r.1, r.2 ++ c ∷ [], leads_step link r.0 r.2 b c r.3 next)
-
-leads_induction : {V : Type 0} (link : V → V → Type 0) (P : V → Type 0) → ((b c : V) → P b → link b c → P c) → (a : V) (cs : List V) (v : V) → P a → Leads link a cs v → P v
-leads_induction link P carried a [] v at_a along = subst P along at_a
-leads_induction link P carried a (c ∷ cs) v at_a along = leads_induction link P carried c cs v (carried a c at_a along.0) along.1
-
--- what holds at each start, and is carried by each link, holds wherever a walk comes
-pub reaches_induction : {V : Type 0} (link : V → V → Type 0) (start : V → Type 0) (P : V → Type 0) → ((a : V) → start a → P a) → ((b c : V) → P b → link b c → P c) → (v : V) → Reaches link start v → P v
-reaches_induction link start P begins carried v r = leads_induction link P carried r.0 r.2 v (begins r.0 r.1) r.3
 
 -- Where a search stands: what is marked is walked, each start is marked, and so is each point linked from a marked one that does not wait.
 pub record IsWalk (g : GraphView) (x : ℕ) (asked : PhaseSet) (v : SearchView) : Type 0 where
@@ -44,9 +24,6 @@ pub record IsWalk (g : GraphView) (x : ℕ) (asked : PhaseSet) (v : SearchView) 
   pub begun : (a : Point) → IsStart (wiring g) x asked a → IsMarked v a
   pub waiting : (a : Point) → Waits v a → IsMarked v a
   pub closed : (a b : Point) → IsMarked v a → Linked (wiring g) a b → Waits v a ⊎ IsMarked v b
-
-walks_point : (g : GraphView) (x : ℕ) (asked : PhaseSet) (a : Point) → IsPointReached (wiring g) x asked a → IsPoint (wiring g) a
-walks_point g x asked = reaches_induction (Linked (wiring g)) (IsStart (wiring g) x asked) (IsPoint (wiring g)) (λ a s. s.point) (λ b c at next. next.to)
 
 own_point : (g : GraphView) (terminals : List (Term × PhaseSet)) → IsNumbered g terminals → (a : Point) → IsOwn terminals a → IsPoint (wiring g) a
 own_point g terminals numbered a (phases, has, holds) = subst (λ (s : PhaseSet). IsTrue (has_phase s a.phase)) (numbered.sound a.term phases has) holds
@@ -84,7 +61,7 @@ walk_goes_on g x asked next a b c numbered walk popped m =
           (λ (may, own, waits).
           let from : Point = record { term = next.0; phase = may.0 } in
           let walked = walk.sound from (popped_marked may.0 may.1) in
-          reaches_step (Linked (wiring g)) (IsStart (wiring g) x asked) from y walked (record { from = walks_point g x asked from walked; to = own_point g b.terminals numbered_b y own; joined = may.2 }))
+          reaches_step (Linked (wiring g)) (IsStart (wiring g) x asked) from y walked (record { from = reached_is_point (wiring g) x asked from walked; to = own_point g b.terminals numbered_b y own; joined = may.2 }))
           (m.only y h);
       begun = λ y s. m.kept y (forth y (walk.begun y s));
       waiting = λ y w. ⊎_elim

@@ -1,5 +1,5 @@
 -- What the maps of a graph give at a key.
-use Rattle.std.proofs.Common.{◌≡◌, ◌&&◌, ℕ, Bool, true, false, cond, eqb, List, [], ◌∷◌, ◌++◌, map, Some, None, refl, sym, ap, ap₂, ◌∙◌, subst, arith, Ordering, Less, Equal, Greater}
+use Rattle.std.proofs.Common.{◌≡◌, ℕ, Bool, false, cond, eqb, List, [], ◌∷◌, ◌++◌, map, Some, None, refl, sym, ap, ◌∙◌, subst, arith, Ordering, Less, Equal, Greater}
 use Rattle.std.specs.List.{AllByRecursion, IsDistinct}
 use Rattle.std.specs.Map.{lookup, values_of, keys_of, update_all}
 use Rattle.std.specs.Ordering.{nat_cmp, is_eq}
@@ -12,13 +12,14 @@ use Rattle.std.proofs.lemmas.Map.{update_all_push}
 use Rattle.std.proofs.lemmas.Map.Lookups.{exact_unsigned}
 use Rattle.std.proofs.lemmas.Map.Made.{update_all_none}
 use Rattle.std.proofs.lemmas.Map.Keys.{IsDistinct-from_sorted}
+use Rattle.std.proofs.lemmas.List.{map-id, map_push}
+use Rattle.room_words.proofs.Compared.{same_anchor_laws}
 use Rattle.cim_words.specs.declared.identifier.Id.{Id}
 use Rattle.graph_pages.specs.Graph.{star_in}
 use Rattle.room_words.specs.Terms.{same_anchor}
 use Rattle.graph_pages.specs.Held.{HoldsById, star_by_id}
 use Rattle.graph_pages.specs.declared.star.Star.{Star}
 use Rattle.room_words.specs.declared.anchor.Anchor.{Anchor}
-use Rattle.room_words.specs.declared.anchor.Anchor.TheVariants.{Node, Side}
 
 -- the star under an identifier is the star of that identifier
 pub star_by_id-held : (entries : List (Id × Star)) (x : ℕ) → HoldsById entries → star_by_id entries x ≡ star_in (values_of entries) x
@@ -101,34 +102,6 @@ stars_given stars entries apart_all gives x =
     let id : Id = record { number = x } in
     gives id ∙ update_all_none same_id_laws same_id (λ a b. refl) (entries_of stars) id (apart stars apart_all) ∙ entry_in stars id
 
-and_both : (a b : Bool) → (a && b) ≡ true → (a ≡ true) × (b ≡ true)
-and_both true true h = (refl, refl)
-and_both true false h = cc
-and_both false b h = cc
-
-anchor_refl : (x : Anchor) → same_anchor x x ≡ true
-anchor_refl (Node n) = nat_eq_equiv.refl n.number
-anchor_refl (Side item side) = ap₂ (λ a b. a && b) (nat_eq_equiv.refl item.number) (nat_eq_equiv.refl side)
-
-anchor_symm : (x y : Anchor) → same_anchor x y ≡ same_anchor y x
-anchor_symm (Node n) (Node m) = nat_eq_equiv.symm n.number m.number
-anchor_symm (Node n) (Side item side) = refl
-anchor_symm (Side item side) (Node n) = refl
-anchor_symm (Side item side) (Side other part) = ap₂ (λ a b. a && b) (nat_eq_equiv.symm item.number other.number) (nat_eq_equiv.symm side part)
-
-anchor_congr : (x y z : Anchor) → same_anchor x y ≡ true → same_anchor x z ≡ same_anchor y z
-anchor_congr (Node n) (Node m) (Node k) h = nat_eq_equiv.congr n.number m.number k.number h
-anchor_congr (Node n) (Node m) (Side item side) h = refl
-anchor_congr (Node n) (Side item side) z h = cc
-anchor_congr (Side item side) (Node n) z h = cc
-anchor_congr (Side item side) (Side other part) (Node n) h = refl
-anchor_congr (Side item side) (Side other part) (Side third piece) h =
-    let both = and_both (eqb item.number other.number) (eqb side part) h in
-    ap₂ (λ a b. a && b) (nat_eq_equiv.congr item.number other.number third.number both.0) (nat_eq_equiv.congr side part piece both.1)
-
-pub same_anchor_laws : IsEquivalence same_anchor
-same_anchor_laws = record { refl = anchor_refl; symm = anchor_symm; congr = anchor_congr }
-
 pub members_given : {X : Type 0} (places entries : List (Anchor × X)) → IsDistinct same_anchor (keys_of places) → Gives same_anchor entries places → (place : Anchor) → lookup (same_anchor place) entries ≡ lookup (same_anchor place) places
 members_given places entries apart_all gives place = gives place ∙ update_all_none same_anchor_laws same_anchor (λ a b. refl) places place apart_all
 
@@ -146,18 +119,10 @@ held_more (e ∷ es) star held = held_more_at (nat_cmp star.id.number e.0.number
 
 -- what a loop over a vector took is the vector
 pub all_taken : {X : Type 0} (xs ys : List X) → map {A = X} (λ x. x) xs ≡ ys → xs ≡ ys
-all_taken xs ys e = sym (same xs) ∙ e
-  where
-    same : {X : Type 0} (zs : List X) → map {A = X} (λ x. x) zs ≡ zs
-    same [] = refl
-    same {X} (z ∷ zs) = ap (λ (rest : List X). z ∷ rest) (same zs)
-
-entries_more : (stars : List Star) (star : Star) → entries_of stars ++ (star.id, star) ∷ [] ≡ entries_of (stars ++ star ∷ [])
-entries_more [] star = refl
-entries_more (s ∷ stars) star = ap (λ (rest : List (Id × Star)). (s.id, s) ∷ rest) (entries_more stars star)
+all_taken xs ys e = sym (map-id xs) ∙ e
 
 -- one more star is put in
 pub star_gives_more : (old new : List (Id × Star)) (put : List Star) (star : Star) → ((q : Id) → lookup (λ (r : Id). is_eq (nat_cmp q.number r.number)) new ≡ cond (is_eq (nat_cmp star.id.number q.number)) (Some star) (lookup (λ (r : Id). is_eq (nat_cmp q.number r.number)) old)) → Gives same_id old (entries_of put) → Gives same_id new (entries_of (put ++ star ∷ []))
 star_gives_more old new put star puts before =
-    subst (Gives same_id new) (entries_more put star)
+    subst (Gives same_id new) (sym (map_push (λ (star : Star). (star.id, star)) put star))
     (gives_more (λ (a b : Id). nat_cmp a.number b.number) same_id (λ a b. same_by_cmp a.number b.number) old new (entries_of put) star.id star puts before)

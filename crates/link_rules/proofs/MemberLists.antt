@@ -1,6 +1,7 @@
 -- Lists of terminals at a node and of marks, gathered one by one.
-use Rattle.std.proofs.Common.{◌≡◌, ℕ, List, [], ◌∷◌, ◌++◌, map, Bool, true, false, cond, Option, Some, None, refl, ap, sym, ◌∙◌}
+use Rattle.std.proofs.Common.{◌≡◌, ℕ, List, [], ◌∷◌, ◌++◌, map, Option, Some, None, refl, ap, sym, ◌∙◌}
 use Rattle.std.specs.List.{cons_option, filter, filter_map, flat_map}
+use Rattle.plain_laws.proofs.Filters.{filter_map_filter, filter_map_map}
 use Rattle.cim_model.specs.Marks.{is_item_on, item_mark}
 use Rattle.cim_model.specs.Values.{as_id}
 use Rattle.cim_words.specs.declared.identifier.Id.{Id}
@@ -11,17 +12,7 @@ use Rattle.segment_cuts.specs.declared.mark.Mark.{Mark}
 
 -- what is gathered of numbers is gathered of the identifiers with these numbers
 pub of_ids : {Y : Type 0} (f : ℕ → Option Y) (xs : List ℕ) → filter_map (λ (id : Id). f id.number) (map as_id xs) ≡ filter_map f xs
-of_ids f [] = refl
-of_ids f (x ∷ xs) = ap (cons_option (f x)) (of_ids f xs)
-
--- the marks of some items, and of one more
-one_mark : (x : ℕ) (one : TempItem) (kept : List TempItem) (b : Bool) → filter_map item_mark (cond b (one ∷ kept) kept) ≡ cons_option (cond b (item_mark one) None) (filter_map item_mark kept)
-one_mark x one kept true = refl
-one_mark x one kept false = refl
-
-gathered : (x : ℕ) (items : List TempItem) → filter_map item_mark (filter (is_item_on x) items) ≡ filter_map (mark_on x) items
-gathered x [] = refl
-gathered x (one ∷ items) = rw (one_mark x one (filter (is_item_on x) items) (is_item_on x one)) (ap (cons_option (mark_on x one)) (gathered x items))
+of_ids f xs = filter_map_map (λ (id : Id). f id.number) as_id xs
 
 -- what is gathered is what there is of each, one after another
 listed_first : (found : Option Mark) (rest : List Mark) → cons_option found rest ≡ as_list found ++ rest
@@ -31,4 +22,4 @@ listed_first (Some mark) rest = refl
 pub each_listed : (x : ℕ) (items : List TempItem) → flat_map (λ (one : TempItem). as_list (mark_on x one)) items ≡ filter_map item_mark (filter (is_item_on x) items)
 each_listed x [] = refl
 each_listed x (one ∷ items) =
-    ap (λ (rest : List Mark). as_list (mark_on x one) ++ rest) (each_listed x items ∙ gathered x items) ∙ sym (listed_first (mark_on x one) (filter_map (mark_on x) items)) ∙ sym (gathered x (one ∷ items))
+    ap (λ (rest : List Mark). as_list (mark_on x one) ++ rest) (each_listed x items ∙ filter_map_filter (is_item_on x) item_mark items) ∙ sym (listed_first (mark_on x one) (filter_map (mark_on x) items)) ∙ sym (filter_map_filter (is_item_on x) item_mark (one ∷ items))

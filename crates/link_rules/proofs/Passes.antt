@@ -1,12 +1,15 @@
--- How equipment and items conduct, and how their stars pass current.
-use Rattle.std.proofs.Common.{◌≡◌, ℕ, List, Bool, true, false, cond, Some, None, refl, ap, sym, subst}
+-- How equipment and items conduct, how their stars pass current, and that what a star is made of determines it.
+use Rattle.std.proofs.Common.{◌≡◌, ℕ, List, Bool, true, false, cond, Some, None, refl, ap, sym, subst, ◌∙◌}
+use Rattle.segment_cuts.specs.declared.mark.Spot.{Spot}
+use Rattle.segment_cuts.specs.Sections.{AreSections}
+use Rattle.graph_pages.specs.declared.star.Star.{Star}
 use Rattle.cim_model.specs.Live.{Conduction, PassesAlong, PassesAll, PassesNothing, PassesSwitched, PassesTransformed, conduction, is_open, item_conduction}
 use Rattle.cim_model.specs.Model.{is_of}
 use Rattle.cim_words.specs.Groups.{is_passing, is_segment, is_switch, is_transformer}
 use Rattle.cim_words.specs.declared.statement.Statement.{Statement}
 use Rattle.graph_pages.specs.declared.star.Pass.{Pass}
 use Rattle.graph_pages.specs.declared.star.Pass.TheVariants as pass
-use Rattle.link_rules.specs.Inputs.{Inputs, IsPass, IsPassBy, inputs}
+use Rattle.link_rules.specs.Inputs.{Inputs, IsPass, IsPassBy, IsStar, inputs, line, marks_in}
 use Rattle.link_rules.specs.Parts.{class_pass, item_pass, switch_open}
 use Rattle.room_words.specs.Items.{item_open}
 use Rattle.room_words.specs.Overlay.{item_of}
@@ -45,3 +48,21 @@ pub line_pass_is : (m : List Statement) (o : Overlay) (x : ℕ) (found : Pass) �
 line_pass_is m o x found none segment by =
     let how : conduction m o x ≡ PassesAlong = rw (none, segment) refl in
     subst (λ (how : Conduction). IsPassBy how (inputs m o x) found) (sym how) by
+
+-- ---- what a star is made of determines it
+
+one_pass : (i : Inputs) (how : Conduction) (a b : Pass) → ((these those : List (List Spot)) → AreSections (marks_in i) these → AreSections (marks_in i) those → these ≡ those) → IsPassBy how i a → IsPassBy how i b → a ≡ b
+one_pass i PassesNothing a b one is also = is ∙ sym also
+one_pass i PassesAlong a b one (these, are, is) (those, also, other) = is ∙ ap (line i) (one these those are also) ∙ sym other
+one_pass i PassesSwitched a b one is also = is ∙ sym also
+one_pass i PassesAll a b one is also = is ∙ sym also
+one_pass i PassesTransformed a b one is also = is ∙ sym also
+
+pub one_star : (x : ℕ) (i : Inputs) (a b : Star) → ((these those : List (List Spot)) → AreSections (marks_in i) these → AreSections (marks_in i) those → these ≡ those) → IsStar x i a → IsStar x i b → a ≡ b
+one_star x i a b one is also j =
+    let id = is.id ∙ sym also.id in
+    let class = is.class ∙ sym also.class in
+    let on = is.on ∙ sym also.on in
+    let spokes = is.spokes ∙ sym also.spokes in
+    let pass = one_pass i i.conducts a.pass b.pass one is.pass also.pass in
+    record { id = id j; class = class j; on = on j; spokes = spokes j; pass = pass j }

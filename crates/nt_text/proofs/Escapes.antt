@@ -1,8 +1,8 @@
 -- Escapes: a backslash and a letter, or a backslash, a mark and digits.
-use Rattle.std.proofs.Common.{◌≡◌, ℕ, ◌<◌, List, [], ◌∷◌, ◌++◌, Bool, true, false, ◌&&◌, ◌||◌, ◌==◌, ◌⊎◌, inl, inr, length, IsTrue, Option, Some, None, IfSome, IsSomeAnd, Bor, refl, sym, ap, ◌∙◌, arith, subst}
-use Rattle.std.proofs.lemmas.Bool.Decides.{nat_tests}
+use Rattle.std.proofs.Common.{◌≡◌, ℕ, ◌<◌, List, [], ◌∷◌, ◌++◌, true, false, ◌&&◌, ◌==◌, ◌⊎◌, inl, inr, length, IsTrue, Option, Some, None, IfSome, IsSomeAnd, Bor, refl, sym, ap, ◌∙◌, arith, subst, ⊎_elim}
 use Rattle.std.proofs.lemmas.Str.{char_from_byte}
 use Rattle.std.specs.Char.{IsScalar, encode_utf8}
+use Rattle.std.proofs.lemmas.Bool.{and_parts, eqb-true, or_cases}
 use Rattle.cim_words.specs.Written.{backslash}
 use Rattle.nt_text.specs.Parts.{Part, raw, named, numbered, is_raw, is_name, named_character, has_digits, are_hex, hex_number, IsPart, part_spelling, part_text}
 use Rattle.nt_text.specs.declared.spelling.Coding.{Coding}
@@ -17,23 +17,12 @@ pub data Marked (coding : Coding) (part : Part) (mark : ℕ) (after rest : List 
   eight_of : (digits : List ℕ) → mark ≡ 0x55 → length digits ≡ 8 → IsTrue (are_hex digits) → IsScalar (hex_number digits)
       → part_text part ≡ encode_utf8 (hex_number digits) → after ≡ digits ++ rest → Marked coding part mark after rest
 
-one_of_two : (a b c d : Bool) → ((a && b) || (c && d)) ≡ true → ((a ≡ true) × (b ≡ true)) ⊎ ((c ≡ true) × (d ≡ true))
-one_of_two true true c d h = inl (refl, refl)
-one_of_two true false true true h = inr (refl, refl)
-one_of_two true false true false h = absurd cc
-one_of_two true false false d h = absurd cc
-one_of_two false b true true h = inr (refl, refl)
-one_of_two false b true false h = absurd cc
-one_of_two false b false d h = absurd cc
-
 pub digits_of : (mark count : ℕ) → IsTrue (has_digits mark count) → ((mark ≡ 0x75) × (count ≡ 4)) ⊎ ((mark ≡ 0x55) × (count ≡ 8))
-digits_of mark count has = elim (one_of_two (mark == 0x75) (count == 4) (mark == 0x55) (count == 8) has) as (λ _. ((mark ≡ 0x75) × (count ≡ 4)) ⊎ ((mark ≡ 0x55) × (count ≡ 8))) [
-  | inl is ↦ inl (test mark 0x75 is.0, test count 4 is.1)
-  | inr is ↦ inr (test mark 0x55 is.0, test count 8 is.1)
-]
-  where
-    test : (m n : ℕ) → (m == n) ≡ true → m ≡ n
-    test m n h = grind (arith, nat_tests)
+digits_of mark count has =
+    ⊎_elim
+    (λ is. let parts = and_parts (mark == 0x75) (count == 4) is in inl (eqb-true mark 0x75 parts.0, eqb-true count 4 parts.1))
+    (λ is. let parts = and_parts (mark == 0x55) (count == 8) is in inr (eqb-true mark 0x55 parts.0, eqb-true count 8 parts.1))
+    (or_cases (mark == 0x75 && count == 4) (mark == 0x55 && count == 8) has)
 
 pub marked_part : (coding : Coding) (part : Part) (mark : ℕ) (after rest : List ℕ) → IsPart coding part → backslash ∷ (mark ∷ after) ≡ part_spelling part ++ rest
     → Marked coding part mark after rest

@@ -1,6 +1,6 @@
 -- The first end of a line in bytes.
-use Rattle.std.proofs.Common.{◌≡◌, ℕ, ◌+◌, ◌-◌, ◌<◌, ◌≤◌, ◌==◌, ◌||◌, List, Bool, true, false, length, get_or, take, drop, refl, subst, inl, inr, arith}
-use Rattle.std.proofs.lemmas.Bool.{or_cases, eqb-true}
+use Rattle.std.proofs.Common.{◌≡◌, ℕ, ◌+◌, ◌-◌, ◌<◌, ◌≤◌, ◌==◌, ◌||◌, List, Bool, true, length, get_or, take, drop, refl, subst, inl, inr, arith}
+use Rattle.std.proofs.lemmas.Bool.{eqb-true, or_cases, or_right}
 use Rattle.std.proofs.lemmas.Grind.{common_steps}
 use Rattle.std.proofs.lemmas.List.{take_all}
 use Rattle.cim_words.specs.Written.{line_feed, carriage_return}
@@ -14,12 +14,8 @@ is_end byte = (byte == line_feed) || (byte == carriage_return)
 plain_before : (bytes : List ℕ) (end : ℕ) → ((k : ℕ) → 0 ≤ k → k < end → is_end (get_or bytes k 0) ≡ true → ⊥) → IsPlain (take end bytes)
 plain_before bytes end none = record {
   no_feed = first_at line_feed bytes end (λ k low below is. none k low below (rw is refl));
-  no_return = first_at carriage_return bytes end (λ k low below is. none k low below (returns (get_or bytes k 0) (get_or bytes k 0 == line_feed) is));
+  no_return = first_at carriage_return bytes end (λ k low below is. none k low below (or_right (get_or bytes k 0 == line_feed) _ is));
 }
-  where
-    returns : (byte : ℕ) (b : Bool) → (byte == carriage_return) ≡ true → (b || (byte == carriage_return)) ≡ true
-    returns byte true is = refl
-    returns byte false is = is
 
 -- bytes without an end
 pub none_ends : (bytes : List ℕ) → ((k : ℕ) → 0 ≤ k → k < length bytes → is_end (get_or bytes k 0) ≡ true → ⊥) → IsPlain bytes

@@ -3,6 +3,7 @@ use Rattle.std.proofs.Common.{◌≡◌, ◌≢◌, ℕ, suc, ◌+◌, List, [],
 use Rattle.std.proofs.lemmas.Bool.Decides.{nat_tests}
 use Rattle.std.specs.Char.{encode_utf8, digit_value}
 use Rattle.std.specs.List.{flat_map, AllByRecursion}
+use Rattle.std.proofs.lemmas.Bool.{and_parts}
 use Rattle.cim_words.specs.Written.{is_iri_character, backslash, quote}
 use Rattle.nt_text.specs.Cut.{IsFreeOf}
 use Rattle.nt_text.specs.Parts.{Part, raw, named, numbered, is_raw, are_hex, IsPart, part_spelling, Spells}
@@ -11,13 +12,13 @@ use Rattle.nt_text.specs.Spelling.{closing}
 use Rattle.nt_text.specs.declared.spelling.Coding.TheVariants.{Iri, Literal}
 use Rattle.nt_text.proofs.Cuts.{IsFreeOf-append}
 use Rattle.nt_text.proofs.Escapes.{digits_of}
-use Rattle.nt_text.proofs.SpelledTexts.{both_true, backslash_marks, free_character}
+use Rattle.nt_text.proofs.SpelledTexts.{backslash_marks, free_character}
 
 -- a mark that is no hexadecimal digit stands in no digits
 pub hex_free : (mark : ℕ) (digits : List ℕ) → nat_lt (digit_value mark) 16 ≡ false → IsTrue (are_hex digits) → IsFreeOf mark digits
 hex_free mark [] no_digit hex = tt
 hex_free mark (digit ∷ digits) no_digit hex =
-    let both = both_true (nat_lt (digit_value digit) 16) (are_hex digits) hex in
+    let both = and_parts (nat_lt (digit_value digit) 16) (are_hex digits) hex in
     ((λ is. let no : true ≡ false = sym both.0 ∙ ap (λ (d : ℕ). nat_lt (digit_value d) 16) is ∙ no_digit in absurd cc), hex_free mark digits no_digit both.1)
 
 closing_no_iri : is_iri_character closing ≡ false

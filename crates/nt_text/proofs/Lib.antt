@@ -8,11 +8,9 @@ pub mod HexDigits
 pub mod Insides
 pub mod LineReads
 pub mod LiteralEnds
-pub mod ObjectEnds
 pub mod OneDocument
 pub mod OneReading
 pub mod OneText
-pub mod QuoteCuts
 pub mod ReaderLemmas
 pub mod ReaderStates
 pub mod Runs
@@ -21,7 +19,6 @@ pub mod SpelledTexts
 pub mod Tags
 pub mod TakenBytes
 pub mod TermForms
-pub mod Triples
 pub mod Widths
 pub mod WrittenLines
 pub mod WrittenParts

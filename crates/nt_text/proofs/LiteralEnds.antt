@@ -1,9 +1,15 @@
--- What stands behind a literal's characters, by what begins there behind the gap.
-use Rattle.std.proofs.Common.{◌≡◌, ℕ, List, ◌∷◌, ◌++◌, inl, inr, Bool, true, false, ◌==◌, refl, sym, ap, ◌∙◌, subst, codes, Result, Ok, Err, IfOk, IsTrue, ◌↔◌}
-use Rattle.nt_text.specs.Ends.{HasIriEnd, HasTagEnd, HasLiteralEnd}
-use Rattle.nt_text.specs.Grammar.{is_blank, HasKind, IsEnd}
+-- Where literals and other objects of a triple end.
+use Rattle.std.proofs.Common.{◌≡◌, ℕ, List, ◌∷◌, ◌++◌, inl, inr, Bool, true, false, ◌==◌, refl, sym, ap, ◌∙◌, subst, codes, Result, Ok, Err, IfOk, IsTrue, ◌↔◌, ◌⊎◌}
+use Rattle.nt_text.proofs.TermForms.{iri_begins, literal_begins}
+use Rattle.nt_text.specs.Spelling.{closing}
+use Rattle.cim_words.specs.declared.object.Object.{Object}
+use Rattle.cim_words.specs.Written.{quote}
+use Rattle.cim_words.specs.Object.{object_of}
+use Rattle.nt_text.specs.Ends.{HasIriEnd, HasLiteralEnd, HasLiteralToEnd, HasObjectToEnd, HasTagEnd}
+use Rattle.nt_text.specs.Grammar.{HasCharacters, HasIri, HasKind, HasObject, IsEnd, is_blank}
 use Rattle.nt_text.specs.Run.{behind_run}
 use Rattle.nt_text.proofs.Runs.{behind_run-append, run_of, end_begins}
+use Rattle.cim_words.specs.declared.object.Object.TheVariants as object
 
 -- the end alone, a datatype and the end, or a language tag and the end
 pub data LiteralEnd (bytes : List ℕ) : Type 0 where
@@ -76,3 +82,28 @@ typed_not_tagged bytes a b begins begins' = other_byte (behind_run is_blank byte
 pub same_test : {E : Type 0} (r : Result Bool E) (P Q : Type 0) → IfOk r (λ is. IsTrue is ↔ P) → (P → Q) → (Q → P) → IfOk r (λ is. IsTrue is ↔ Q)
 same_test (Ok b) P Q test there back = ((λ is. there (test.0 is)), (λ holds. test.1 (back holds)))
 same_test (Err e) P Q test there back = tt
+
+-- ---- the object of a triple: an IRI or a literal, up to the end
+
+abbrev pub NamedToEnd : List ℕ → Object → Type 0
+NamedToEnd bytes thing = (end : HasIriEnd bytes) × (thing ≡ object_of end.text)
+
+abbrev pub LiteralToEnd : List ℕ → Object → Type 0
+LiteralToEnd bytes thing = (end : HasLiteralToEnd bytes) × (thing ≡ object.Text end.text)
+
+at_end : (bytes rest : List ℕ) (thing : Object) → HasObject bytes thing rest → IsEnd rest → NamedToEnd bytes thing ⊎ LiteralToEnd bytes thing
+at_end bytes rest thing (inl named) ends = inl (record { text = named.text; rest = rest; iri = named.iri; ends = ends }, named.names)
+at_end bytes rest thing (inr literal) ends = inr (
+  record { text = literal.text; behind = literal.behind; characters = literal.characters; ends = record { rest = rest; kind = literal.kind; ends = ends } },
+  literal.names,
+)
+
+-- an object up to the end is an IRI or a literal up to the end
+pub object_to_end : (bytes : List ℕ) (thing : Object) → HasObjectToEnd bytes thing → NamedToEnd bytes thing ⊎ LiteralToEnd bytes thing
+object_to_end bytes thing end = at_end bytes end.rest thing end.has end.ends
+
+-- an IRI is no literal
+pub iri_no_literal : (bytes text rest text' rest' : List ℕ) → HasIri bytes text rest → HasCharacters bytes text' rest' → ⊥
+iri_no_literal bytes text rest text' rest' iri literal =
+    other_byte (behind_run is_blank bytes) (iri.inside ++ closing ∷ rest) (literal.inside ++ quote ∷ rest') 0x3C quote refl refl
+    (iri_begins bytes text rest iri) (literal_begins bytes text' rest' literal)

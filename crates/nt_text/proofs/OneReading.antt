@@ -23,8 +23,7 @@ use Rattle.nt_text.specs.declared.refusal.LineRefusal.TheVariants as why
 use Rattle.nt_text.specs.declared.spelling.Coding.TheVariants.{Iri, Literal}
 use Rattle.nt_text.proofs.Cuts.{one_cut}
 use Rattle.nt_text.proofs.Insides.{iri_free, literal_closes}
-use Rattle.nt_text.proofs.LiteralEnds.{other_byte}
-use Rattle.nt_text.proofs.ObjectEnds.{iri_no_literal}
+use Rattle.nt_text.proofs.LiteralEnds.{other_byte, iri_no_literal}
 use Rattle.nt_text.proofs.OneText.{one_text}
 use Rattle.nt_text.proofs.Runs.{empty_line_begins, blank_node_begins}
 use Rattle.nt_text.proofs.TermForms.{iri_begins, literal_begins, one_literal_cut}

@@ -94,6 +94,9 @@ piece_of coding rest front behind text cut free spells =
       texts = fronts.texts ∙ ap (λ (l : List ℕ). front ++ l) first.texts;
     }
 
+joined : (d f p c t : List ℕ) → p ≡ c → d ++ (f ++ (p ++ t)) ≡ ((d ++ f) ++ c) ++ t
+joined d f p c t same = rw same (simp append_assoc)
+
 pub reading_goes_on : (coding : Coding) (spelled done rest front behind character after : List ℕ) → IsReadTo coding spelled done rest
     → rest ≡ front ++ backslash ∷ behind → IsFreeOf backslash front → IsUtf8 front → list_all (is_raw coding) front ≡ true
     → IsEscapeAt coding behind character after
@@ -109,9 +112,6 @@ reading_goes_on coding spelled done rest front behind character after so_far cut
         let whole = so_far.found (front ++ (part_text escape.part ++ text)) (subst P (sym (cut ∙ ap (λ (l : List ℕ). front ++ l) escape.layout)) pieces) in
         let Q : List ℕ → Type 0 = Spells coding spelled in
         subst Q (joined done front (part_text escape.part) character text escape.texts) whole
-      where
-        joined : (d f p c t : List ℕ) → p ≡ c → d ++ (f ++ (p ++ t)) ≡ ((d ++ f) ++ c) ++ t
-        joined d f p c t same = rw same (simp append_assoc)
 
     all : (text : List ℕ) → Spells coding spelled text → (more : List ℕ) × (text ≡ ((done ++ front) ++ character) ++ more) × Spells coding after more
     all text spells =
@@ -120,9 +120,6 @@ reading_goes_on coding spelled done rest front behind character after so_far cut
         let same = only piece.part piece.rest piece.is_part piece.layout in
         let P : List ℕ → Type 0 = λ l. Spells coding l piece.more in
         (piece.more, left.1 ∙ ap (λ (l : List ℕ). done ++ l) piece.texts ∙ joined done front (part_text piece.part) character piece.more same.0, subst P (sym same.1) piece.spells)
-      where
-        joined : (d f p c t : List ℕ) → p ≡ c → d ++ (f ++ (p ++ t)) ≡ ((d ++ f) ++ c) ++ t
-        joined d f p c t same = rw same (simp append_assoc)
 
 -- the last piece stands for itself
 pub last_piece : (coding : Coding) (rest text : List ℕ) → IsFreeOf backslash rest → Spells coding rest text → (text ≡ rest) × (list_all (is_raw coding) rest ≡ true) × IsUtf8 rest

@@ -1,6 +1,6 @@
 -- Texts that are spelled part by part: characters that stand for themselves, and escapes.
-use Rattle.std.proofs.Common.{◌≡◌, ◌≢◌, ℕ, suc, ◌<◌, ◌≤◌, List, [], ◌∷◌, ◌++◌, Bool, true, false, ◌&&◌, length, get_or, refl, sym, ap, ◌∙◌, arith, ⊎_elim, append_assoc, subst}
-use Rattle.std.proofs.lemmas.Bool.{cases_lt}
+use Rattle.std.proofs.Common.{◌≡◌, ◌≢◌, ℕ, suc, ◌<◌, ◌≤◌, List, [], ◌∷◌, ◌++◌, true, false, length, get_or, refl, sym, ap, ◌∙◌, arith, ⊎_elim, append_assoc, subst}
+use Rattle.std.proofs.lemmas.Bool.{and_parts, cases_lt}
 use Rattle.std.proofs.lemmas.Bool.Decides.{nat_tests}
 use Rattle.std.proofs.lemmas.List.{append-nil}
 use Rattle.std.proofs.lemmas.List.Concat.{flat_map-append}
@@ -9,14 +9,13 @@ use Rattle.std.proofs.lemmas.Str.{encode_ascii, inside_one, IsUtf8-append, IsUtf
 use Rattle.std.specs.Char.{encode_utf8}
 use Rattle.std.specs.List.{flat_map, list_all, AllByRecursion}
 use Rattle.std.specs.Str.{IsUtf8, encode_utf8_all, all_scalars}
+use Rattle.std.proofs.lemmas.List.Sums.{list_all-from_AllPass}
+use Rattle.std.proofs.lemmas.List.Elements.{All-from_get_or}
 use Rattle.cim_words.specs.Written.{is_iri_character, backslash}
 use Rattle.nt_text.specs.Cut.{IsFreeOf}
 use Rattle.nt_text.specs.Parts.{Part, raw, named, numbered, is_raw, IsPart, part_spelling, part_text, Spells}
 use Rattle.nt_text.specs.declared.spelling.Coding.{Coding}
 use Rattle.nt_text.specs.declared.spelling.Coding.TheVariants.{Iri, Literal}
-
-pub both_true : (a b : Bool) → (a && b) ≡ true → (a ≡ true) × (b ≡ true)
-both_true a b h = grind arith
 
 -- a byte of a character beyond ASCII stands for itself
 plain_byte : (coding : Coding) (byte : ℕ) → 128 ≤ byte → is_raw coding byte ≡ true
@@ -39,18 +38,14 @@ raw_byte coding c k is within =
     ⊎_elim (λ low. ap (is_raw coding) (sym (byte_of c k within low)) ∙ is) (λ high. plain_byte coding (get_or (encode_utf8 c) k 0) high)
     (cases_lt (get_or (encode_utf8 c) k 0) 128)
 
-all_from : (test : ℕ → Bool) (bytes : List ℕ) → ((k : ℕ) → k < length bytes → test (get_or bytes k 0) ≡ true) → list_all test bytes ≡ true
-all_from test [] each = refl
-all_from test (byte ∷ bytes) each =
-    rw (each 0 (omega arith), all_from test bytes (λ k within. each (suc k) (omega arith))) refl
-
 pub raw_bytes : (coding : Coding) (c : ℕ) → is_raw coding c ≡ true → list_all (is_raw coding) (encode_utf8 c) ≡ true
-raw_bytes coding c is = all_from (is_raw coding) (encode_utf8 c) (λ k within. raw_byte coding c k is within)
+raw_bytes coding c is =
+    list_all-from_AllPass (is_raw coding) (encode_utf8 c) (All-from_get_or (λ (b : ℕ). is_raw coding b ≡ true) (encode_utf8 c) 0 (λ k within. raw_byte coding c k is within))
 
 -- and a character whose bytes do so stands for itself
 raw_from : (coding : Coding) (c : ℕ) → list_all (is_raw coding) (encode_utf8 c) ≡ true → is_raw coding c ≡ true
 raw_from coding c all =
-    ⊎_elim (λ (low : c < 128). (both_true (is_raw coding c) true (sym (ap (list_all (is_raw coding)) (encode_ascii c low)) ∙ all)).0) (λ high. plain_byte coding c high)
+    ⊎_elim (λ (low : c < 128). (and_parts (is_raw coding c) true (sym (ap (list_all (is_raw coding)) (encode_ascii c low)) ∙ all)).0) (λ high. plain_byte coding c high)
     (cases_lt c 128)
 
 free_from : (mark : ℕ) (bytes : List ℕ) → ((k : ℕ) → k < length bytes → get_or bytes k 0 ≢ mark) → IsFreeOf mark bytes
@@ -91,8 +86,8 @@ raw_characters : (coding : Coding) (cs : List ℕ) → all_scalars cs ≡ true �
     → Spells coding (encode_utf8_all cs) (encode_utf8_all cs)
 raw_characters coding [] scalars all = Spells-nil coding
 raw_characters coding (c ∷ cs) scalars all =
-    let parts = both_true _ _ (sym (list_all-append (is_raw coding) (encode_utf8 c) (encode_utf8_all cs)) ∙ all) in
-    let are = both_true _ _ scalars in
+    let parts = and_parts _ _ (sym (list_all-append (is_raw coding) (encode_utf8 c) (encode_utf8_all cs)) ∙ all) in
+    let are = and_parts _ _ scalars in
     Spells-append coding (encode_utf8 c) (encode_utf8_all cs) (encode_utf8 c) (encode_utf8_all cs)
     (Spells-part coding (raw c) (are.0, raw_from coding c parts.0)) (raw_characters coding cs are.1 parts.1)
 

@@ -1,6 +1,6 @@
 -- What is written of a text spells it part by part, and is UTF-8.
-use Rattle.std.proofs.Common.{◌≡◌, ℕ, zero, suc, ◌<◌, ◌/◌, ◌%◌, List, [], ◌∷◌, ◌++◌, Bool, true, false, not, ◌||◌, ◌==◌, ◌⊎◌, inl, inr, nat_lt, length, refl, sym, ap, ◌∙◌, arith, subst}
-use Rattle.std.proofs.lemmas.Bool.{eqb-true}
+use Rattle.std.proofs.Common.{◌≡◌, ℕ, ◌<◌, ◌/◌, ◌%◌, List, [], ◌∷◌, ◌++◌, Bool, true, false, not, ◌||◌, ◌==◌, ◌⊎◌, inl, inr, nat_lt, length, refl, sym, ap, ◌∙◌, arith, subst}
+use Rattle.std.proofs.lemmas.Bool.{and_parts, eqb-true}
 use Rattle.std.proofs.lemmas.Bool.Decides.{nat_tests}
 use Rattle.std.proofs.lemmas.List.{append-nil}
 use Rattle.std.proofs.lemmas.List.Concat.{flat_map-append}
@@ -9,33 +9,15 @@ use Rattle.std.proofs.lemmas.Str.Ascii.{IsAscii-cons, IsAscii-nil}
 use Rattle.std.specs.Char.{IsScalar, encode_utf8, digit_value}
 use Rattle.std.specs.List.{flat_map, list_all, AllByRecursion}
 use Rattle.std.specs.Str.{IsUtf8, IsAscii, encode_utf8_all, all_scalars}
+use Rattle.plain_laws.proofs.Filters.{flat_map_itself}
 use Rattle.cim_words.specs.Written.{is_iri_character, iri_spelling, literal_spelling, hex_digit, backslash, quote, line_feed, carriage_return}
 use Rattle.nt_text.specs.Parts.{Part, raw, named, numbered, is_raw, is_name, are_hex, hex_number, IsPart, part_spelling, part_text, Spells}
 use Rattle.nt_text.specs.Spelling.{spelling_of}
 use Rattle.nt_text.specs.declared.spelling.Coding.{Coding}
 use Rattle.nt_text.specs.declared.spelling.Coding.TheVariants.{Iri, Literal}
 use Rattle.nt_text.proofs.Escapes.{digits_of}
-use Rattle.nt_text.proofs.SpelledTexts.{both_true, raw_bytes, Spells-append, Spells-part, Spells-nil}
-
--- the value of a digit that is written
-digit_value-hex_digit : (d : ℕ) → d < 16 → digit_value (hex_digit d) ≡ d
-digit_value-hex_digit zero small = refl
-digit_value-hex_digit (suc zero) small = refl
-digit_value-hex_digit (suc (suc zero)) small = refl
-digit_value-hex_digit (suc (suc (suc zero))) small = refl
-digit_value-hex_digit (suc (suc (suc (suc zero)))) small = refl
-digit_value-hex_digit (suc (suc (suc (suc (suc zero))))) small = refl
-digit_value-hex_digit (suc (suc (suc (suc (suc (suc zero)))))) small = refl
-digit_value-hex_digit (suc (suc (suc (suc (suc (suc (suc zero))))))) small = refl
-digit_value-hex_digit (suc (suc (suc (suc (suc (suc (suc (suc zero)))))))) small = refl
-digit_value-hex_digit (suc (suc (suc (suc (suc (suc (suc (suc (suc zero))))))))) small = refl
-digit_value-hex_digit (suc (suc (suc (suc (suc (suc (suc (suc (suc (suc zero)))))))))) small = refl
-digit_value-hex_digit (suc (suc (suc (suc (suc (suc (suc (suc (suc (suc (suc zero))))))))))) small = refl
-digit_value-hex_digit (suc (suc (suc (suc (suc (suc (suc (suc (suc (suc (suc (suc zero)))))))))))) small = refl
-digit_value-hex_digit (suc (suc (suc (suc (suc (suc (suc (suc (suc (suc (suc (suc (suc zero))))))))))))) small = refl
-digit_value-hex_digit (suc (suc (suc (suc (suc (suc (suc (suc (suc (suc (suc (suc (suc (suc zero)))))))))))))) small = refl
-digit_value-hex_digit (suc (suc (suc (suc (suc (suc (suc (suc (suc (suc (suc (suc (suc (suc (suc zero))))))))))))))) small = refl
-digit_value-hex_digit (suc (suc (suc (suc (suc (suc (suc (suc (suc (suc (suc (suc (suc (suc (suc (suc d)))))))))))))))) small = absurd (omega arith)
+use Rattle.nt_text.proofs.HexDigits.{digit_value-hex_digit}
+use Rattle.nt_text.proofs.SpelledTexts.{raw_bytes, Spells-append, Spells-part, Spells-nil}
 
 -- a character that does not stand for itself is spelled by one part
 record IsEscaped (coding : Coding) (c : ℕ) : Type 0 where
@@ -109,10 +91,7 @@ raw_spelling Iri b is = rw is refl
 raw_spelling Literal b is = literal_raw_at b (b == quote) (b == backslash) (b == line_feed) (b == carriage_return) refl refl refl refl is
 
 raw_spellings : (coding : Coding) (bytes : List ℕ) → list_all (is_raw coding) bytes ≡ true → flat_map (spelling_of coding) bytes ≡ bytes
-raw_spellings coding [] all = refl
-raw_spellings coding (b ∷ bytes) all =
-    let parts = both_true (is_raw coding b) (list_all (is_raw coding) bytes) all in
-    rw (raw_spelling coding b parts.0, raw_spellings coding bytes parts.1) refl
+raw_spellings coding bytes all = flat_map_itself (is_raw coding) (spelling_of coding) (raw_spelling coding) bytes all
 
 character_at : (coding : Coding) (c : ℕ) → IsScalar c → (b : Bool) → is_raw coding c ≡ b → Spells coding (flat_map (spelling_of coding) (encode_utf8 c)) (encode_utf8 c)
 character_at coding c scalar true is =
@@ -129,7 +108,7 @@ character_at coding c scalar false is =
 characters : (coding : Coding) (cs : List ℕ) → all_scalars cs ≡ true → Spells coding (flat_map (spelling_of coding) (encode_utf8_all cs)) (encode_utf8_all cs)
 characters coding [] scalars = Spells-nil coding
 characters coding (c ∷ cs) scalars =
-    let are = both_true _ _ scalars in
+    let are = and_parts _ _ scalars in
     let P : List ℕ → Type 0 = λ l. Spells coding l (encode_utf8 c ++ encode_utf8_all cs) in
     subst P (sym (flat_map-append (spelling_of coding) (encode_utf8 c) (encode_utf8_all cs)))
     (Spells-append coding (flat_map (spelling_of coding) (encode_utf8 c)) (flat_map (spelling_of coding) (encode_utf8_all cs)) (encode_utf8 c) (encode_utf8_all cs)
@@ -151,7 +130,7 @@ hex_ascii digit is = grind (arith, nat_tests)
 digits_ascii : (digits : List ℕ) → are_hex digits ≡ true → IsAscii digits
 digits_ascii [] hex = IsAscii-nil
 digits_ascii (digit ∷ digits) hex =
-    let both = both_true (nat_lt (digit_value digit) 16) (are_hex digits) hex in
+    let both = and_parts (nat_lt (digit_value digit) 16) (are_hex digits) hex in
     IsAscii-cons digit digits (hex_ascii digit both.0) (digits_ascii digits both.1)
 
 part_utf8 : (coding : Coding) (part : Part) → IsPart coding part → IsUtf8 (part_spelling part)

@@ -1,9 +1,11 @@
 -- Sections that the definition admits stand at their levels, and there is one list of them.
-use Rattle.std.proofs.Common.{◌≡◌, ℕ, zero, suc, ◌+◌, ◌<◌, ◌≤◌, ◌⊎◌, inl, inr, List, [], ◌∷◌, ◌++◌, length, get_or, Contains, cond, Bool, true, false, refl, sym, ◌∙◌, subst, arith, length-append}
+use Rattle.std.proofs.Common.{◌≡◌, ℕ, zero, suc, ◌+◌, ◌<◌, ◌≤◌, ◌⊎◌, inl, inr, List, [], ◌∷◌, ◌++◌, length, get_or, Contains, cond, Bool, true, false, sym, ◌∙◌, subst, arith}
 use Rattle.std.specs.List.{All, AllPairs}
 use Rattle.std.proofs.lemmas.Bool.{cases_lt}
-use Rattle.std.proofs.lemmas.List.{get_or_default, get_or_append_left, get_or-append-add}
+use Rattle.std.proofs.lemmas.List.{get_or_default}
 use Rattle.std.proofs.lemmas.List.Elements.{Contains-get_or, All-head, All-tail}
+use Rattle.plain_laws.proofs.Members.{contains_first}
+use Rattle.plain_laws.proofs.Pairs.{pairs_across, pairs_second}
 use Rattle.segment_cuts.specs.declared.mark.Mark.{Mark}
 use Rattle.segment_cuts.specs.declared.mark.Spot.{Spot}
 use Rattle.segment_cuts.specs.Sections.{AreMarks, AreSections, IsOn, Precedes, StandTogether, all_spots, section_index}
@@ -14,23 +16,11 @@ use Rattle.segment_cuts.proofs.Together.{in_all, stands_at_level}
 
 -- ---- spots of different sections stand in order
 
-pub in_two : {X : Type 0} (R : X → X → Type 0) (xs ys : List X) → AllPairs R (xs ++ ys) → (x y : X) → Contains xs x → Contains ys y → R x y
-in_two {X} R xs ys pairs x y here there =
-    let stands : R (get_or (xs ++ ys) here.0 x) (get_or (xs ++ ys) (length xs + there.0) x) = pairs here.0 (length xs + there.0) x (let below : here.0 < length xs = here.1 in omega arith) (let below : there.0 < length ys = there.1 in omega (arith, length-append xs ys)) in
-    let first : get_or (xs ++ ys) here.0 x ≡ x = get_or_append_left xs ys x here.0 here.1 ∙ here.2 in
-    let second : get_or (xs ++ ys) (length xs + there.0) x ≡ y = get_or-append-add xs ys there.0 x ∙ get_or_default ys there.0 x y there.1 ∙ there.2 in
-    subst (λ (z : X). R x z) second (subst (λ (z : X). R z (get_or (xs ++ ys) (length xs + there.0) x)) first stands)
-
-pub in_second : {X : Type 0} (R : X → X → Type 0) (xs ys : List X) → AllPairs R (xs ++ ys) → AllPairs R ys
-in_second {X} R xs ys pairs i j d less within =
-    let stands : R (get_or (xs ++ ys) (length xs + i) d) (get_or (xs ++ ys) (length xs + j) d) = pairs (length xs + i) (length xs + j) d (omega arith) (omega (arith, length-append xs ys)) in
-    subst (λ (z : X). R (get_or ys i d) z) (get_or-append-add xs ys j d) (subst (λ (z : X). R z (get_or (xs ++ ys) (length xs + j) d)) (get_or-append-add xs ys i d) stands)
-
 sections_in_order : (R : Spot → Spot → Type 0) (ps : List (List Spot)) → AllPairs R (all_spots ps) → (i j : ℕ) (d : List Spot) → i < j → j < length ps → (s t : Spot) → Contains (get_or ps i d) s → Contains (get_or ps j d) t → R s t
 sections_in_order R [] pairs i j d less within s t here there = absurd (omega arith)
 sections_in_order R (p ∷ ps) pairs i zero d less within s t here there = absurd (omega arith)
-sections_in_order R (p ∷ ps) pairs zero (suc j) d less within s t here there = in_two R p (all_spots ps) pairs s t here (in_all ps j d t (omega arith) there)
-sections_in_order R (p ∷ ps) pairs (suc i) (suc j) d less within s t here there = sections_in_order R ps (in_second R p (all_spots ps) pairs) i j d (omega arith) (omega arith) s t here there
+sections_in_order R (p ∷ ps) pairs zero (suc j) d less within s t here there = pairs_across R p (all_spots ps) pairs s t here (in_all ps j d t (omega arith) there)
+sections_in_order R (p ∷ ps) pairs (suc i) (suc j) d less within s t here there = sections_in_order R ps (pairs_second R p (all_spots ps) pairs) i j d (omega arith) (omega arith) s t here there
 
 pub precedes_not_itself : (marks : List Mark) (s : Spot) → Precedes marks s s → ⊥
 precedes_not_itself marks s (inl less) = omega arith
@@ -89,9 +79,6 @@ apart_later level p ps apart = record {
   other = λ i j d less within s t here there. apart.other (suc i) (suc j) d (omega arith) (omega arith) s t here there;
 }
 
-pub at_front : (s : Spot) (ss : List Spot) → Contains (s ∷ ss) s
-at_front s ss = (0, omega arith, refl)
-
 levels_from : (level : Spot → ℕ) (n : ℕ) (p : List Spot) (ps : List (List Spot)) → AreApart level (p ∷ ps) → ((s : Spot) → Contains p s → level s ≡ n) → Climbs level n (all_spots ps)
     → (i : ℕ) (d : List Spot) → i < length (p ∷ ps) → (s : Spot) → Contains (get_or (p ∷ ps) i d) s → level s ≡ n + i
 levels_from level n p ps apart first climbs zero d within s here = let is : level s ≡ n = first s here in omega arith
@@ -103,17 +90,17 @@ levels_from level n (r ∷ rs) ((t ∷ ts) ∷ ps) apart first climbs (suc i) d 
     omega arith
   where
     first_is : level r ≡ n
-    first_is = first r (at_front r rs)
+    first_is = first r (contains_first r rs)
 
     higher : level t ≡ n + 1
     higher = cases climbs.0
       where
         cases : (level t ≡ n) ⊎ (level t ≡ n + 1) → level t ≡ n + 1
-        cases (inl flat) = absurd (apart.other 0 1 [] (omega arith) (omega arith) r t (at_front r rs) (at_front t ts) (first_is ∙ sym flat))
+        cases (inl flat) = absurd (apart.other 0 1 [] (omega arith) (omega arith) r t (contains_first r rs) (contains_first t ts) (first_is ∙ sym flat))
         cases (inr up) = up
 
     second : (x : Spot) → Contains (t ∷ ts) x → level x ≡ n + 1
-    second x inside = apart.same 1 [] (omega arith) x t inside (at_front t ts) ∙ higher
+    second x inside = apart.same 1 [] (omega arith) x t inside (contains_first t ts) ∙ higher
 
     past : Climbs level (n + 1) (all_spots ps)
     past = climbs_past level (n + 1) ts (all_spots ps) (λ k e below. second (get_or ts k e) (suc k, omega arith, get_or_default ts k (get_or ts k e) e below)) (subst (λ (m : ℕ). Climbs level m (ts ++ all_spots ps)) higher climbs.1)
@@ -150,7 +137,7 @@ levels_of marks ((r ∷ rs) ∷ ps) apart rises i d within = λ k e below.
     omega arith
   where
     first : (s : Spot) → Contains (r ∷ rs) s → section_index marks s ≡ 0
-    first s here = apart.same 0 [] (omega arith) s r here (at_front r rs) ∙ (rises.first r (omega arith)).0
+    first s here = apart.same 0 [] (omega arith) s r here (contains_first r rs) ∙ (rises.first r (omega arith)).0
 
     past : Climbs (section_index marks) 0 (all_spots ps)
     past = climbs_past (section_index marks) 0 (r ∷ rs) (all_spots ps) (λ k e below. first (get_or (r ∷ rs) k e) (Contains-get_or (r ∷ rs) k e below))

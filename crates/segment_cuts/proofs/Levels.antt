@@ -5,10 +5,10 @@ use Rattle.std.specs.List.{count_by}
 use Rattle.std.proofs.lemmas.Bool.Decides.{nat_tests}
 use Rattle.std.proofs.lemmas.List.{get_or_default}
 use Rattle.std.proofs.lemmas.List.Elements.{Contains-get_or}
+use Rattle.plain_laws.proofs.Counts.{count_alike, count_fewer}
 use Rattle.segment_cuts.specs.declared.mark.Mark.{Mark}
 use Rattle.segment_cuts.specs.declared.mark.Spot.{Spot}
 use Rattle.segment_cuts.specs.Sections.{AreMarks, IsOn, number, cut_number, ShareSection, LiesBetween, section_index}
-use Rattle.segment_cuts.proofs.Counts.{count_alike, count_fewer}
 use Rattle.segment_cuts.proofs.MarkLists.{never_at_cut}
 
 -- whether a mark is a cut with a number below another

@@ -1,4 +1,3 @@
-pub mod Counts
 pub mod Levels
 pub mod MarkLists
 pub mod Rising

@@ -3,8 +3,10 @@ use Rattle.std.proofs.Common.{◌≡◌, ℕ, zero, suc, ◌<◌, ◌≤◌, ◌
 use Rattle.std.specs.List.{AllPairs}
 use Rattle.std.proofs.lemmas.Bool.{cases_lt}
 use Rattle.std.proofs.lemmas.Bool.Decides.{nat_tests}
-use Rattle.std.proofs.lemmas.List.{get_or_default}
 use Rattle.std.proofs.lemmas.List.Elements.{All-contains}
+use Rattle.cim_words.proofs.Statements.{same_id}
+use Rattle.plain_laws.proofs.Pairs.{pairs_any}
+use Rattle.plain_laws.proofs.Truth.{never_both}
 use Rattle.cim_words.specs.Limits.{most_length}
 use Rattle.cim_words.specs.declared.identifier.Id.{Id}
 use Rattle.segment_cuts.specs.declared.mark.Mark.{Mark}
@@ -14,30 +16,7 @@ use Rattle.segment_cuts.specs.Sections.{AreMarks, IsOn, length_of, number, cut_n
 
 -- ---- two items of a list whose items stand in a relation, one way or the other
 
-in_order : {X : Type 0} (R : X → X → Type 0) (xs : List X) → AllPairs R xs → (x y : X) (here : Contains xs x) (there : Contains xs y) → here.0 < there.0 → R x y
-in_order {X} R xs pairs x y here there less =
-    let stands : R (get_or xs here.0 x) (get_or xs there.0 x) = pairs here.0 there.0 x less there.1 in
-    let second : get_or xs there.0 x ≡ y = get_or_default xs there.0 x y there.1 ∙ there.2 in
-    subst (λ (z : X). R x z) second (subst (λ (z : X). R z (get_or xs there.0 x)) here.2 stands)
-
-at_one_place : {X : Type 0} (xs : List X) (x y : X) (here : Contains xs x) (there : Contains xs y) → here.0 ≡ there.0 → x ≡ y
-at_one_place {X} xs x y here there same = sym here.2 ∙ ap (λ (n : ℕ). get_or xs n x) same ∙ get_or_default xs there.0 x y there.1 ∙ there.2
-
-pub any_two : {X : Type 0} (R : X → X → Type 0) (xs : List X) → AllPairs R xs → (x y : X) → Contains xs x → Contains xs y → R x y ⊎ ((x ≡ y) ⊎ R y x)
-any_two {X} R xs pairs x y here there = first (cases_lt here.0 there.0)
-  where
-    second : there.0 ≤ here.0 → (there.0 < here.0) ⊎ (here.0 ≤ there.0) → R x y ⊎ ((x ≡ y) ⊎ R y x)
-    second upto (inl less) = inr (inr (in_order R xs pairs y x there here less))
-    second upto (inr most) = inr (inl (at_one_place xs x y here there (omega arith)))
-
-    first : (here.0 < there.0) ⊎ (there.0 ≤ here.0) → R x y ⊎ ((x ≡ y) ⊎ R y x)
-    first (inl less) = inl (in_order R xs pairs x y here there less)
-    first (inr upto) = second upto (cases_lt there.0 here.0)
-
 -- ---- the length of a mark
-
-same_id : (i j : Id) → i.number ≡ j.number → i ≡ j
-same_id i j e = ap (λ (n : ℕ). let made : Id = record { number = n } in made) e
 
 passed_over : (m : Mark) (ms : List Mark) (id : Id) → (m.id ≡ id → ⊥) → (b : Bool) → (m.id.number == id.number) ≡ b → cond b m.length.mm (length_of ms id) ≡ length_of ms id
 passed_over m ms id other false is = refl
@@ -65,19 +44,16 @@ length_within marks are m here = All-contains (λ (n : Mark). n.length.mm ≤ mo
 
 -- ---- marks at one length
 
-pub true_or_false : (b : Bool) → b ≡ true → b ≡ false → ⊥
-true_or_false b is isnt = cc
-
 pub one_cut_there : (marks : List Mark) → AreMarks marks → (m n : Mark) → Contains marks m → Contains marks n → m.divides ≡ true → m.length.mm ≡ n.length.mm → m ≡ n
-one_cut_there marks are m n here there cut same = cases (any_two (λ (a b : Mark). a.length ≡ b.length → (a.divides ≡ false) × (b.divides ≡ false)) marks are.apart m n here there)
+one_cut_there marks are m n here there cut same = cases (pairs_any (λ (a b : Mark). a.length ≡ b.length → (a.divides ≡ false) × (b.divides ≡ false)) marks are.apart m n here there)
   where
     at : m.length ≡ n.length
     at = ap (λ (n : ℕ). record { mm = n }) same
 
     cases : (m.length ≡ n.length → (m.divides ≡ false) × (n.divides ≡ false)) ⊎ ((m ≡ n) ⊎ (n.length ≡ m.length → (n.divides ≡ false) × (m.divides ≡ false))) → m ≡ n
-    cases (inl before) = absurd (true_or_false m.divides cut (before at).0)
+    cases (inl before) = absurd (never_both m.divides cut (before at).0)
     cases (inr (inl is)) = is
-    cases (inr (inr after)) = absurd (true_or_false m.divides cut (after (sym at)).1)
+    cases (inr (inr after)) = absurd (never_both m.divides cut (after (sym at)).1)
 
 -- ---- no spot has the number of a cut itself
 
@@ -89,7 +65,7 @@ at_cut marks are m here cut (CutTwo id) on is = omega arith
 at_cut marks are m here cut (Clamp id) on is =
     let there : length_of marks id ≡ on.0.length.mm = length_of_mark marks are id on.0 on.1 on.2 in
     let same : m ≡ on.0 = one_cut_there marks are m on.0 here on.1 cut (omega arith) in
-    true_or_false m.divides cut (ap (λ (n : Mark). n.divides) same ∙ on.3)
+    never_both m.divides cut (ap (λ (n : Mark). n.divides) same ∙ on.3)
 
 pub never_at_cut : (marks : List Mark) → AreMarks marks → (m : Mark) → Contains marks m → m.divides ≡ true → (s : Spot) → IsOn marks s → (number marks s < cut_number m) ⊎ (cut_number m < number marks s)
 never_at_cut marks are m here cut s on = cases (cases_lt (number marks s) (cut_number m)) (cases_lt (cut_number m) (number marks s))

@@ -1,12 +1,13 @@
 -- A segment has one list of sections.
-use Rattle.std.proofs.Common.{◌≡◌, ℕ, zero, suc, ◌+◌, ◌<◌, ◌⊎◌, inl, inr, ◌↔◌, List, [], ◌∷◌, ◌++◌, length, get_or, Contains, refl, sym, ap, ◌∙◌, subst, arith}
+use Rattle.std.proofs.Common.{◌≡◌, ℕ, suc, ◌+◌, ◌<◌, inl, inr, ◌↔◌, List, [], ◌∷◌, ◌++◌, length, get_or, Contains, refl, sym, ap, ◌∙◌, subst, arith}
 use Rattle.std.specs.List.{All, AllPairs}
-use Rattle.std.proofs.lemmas.List.Elements.{All-head, All-tail, Contains-append_right}
+use Rattle.std.proofs.lemmas.List.Elements.{All-head, All-tail}
+use Rattle.plain_laws.proofs.Each.{all_flat_map}
+use Rattle.plain_laws.proofs.Sorted.{one_in_order}
 use Rattle.segment_cuts.specs.declared.mark.Mark.{Mark}
 use Rattle.segment_cuts.specs.declared.mark.Spot.{Spot}
 use Rattle.segment_cuts.specs.Sections.{AreMarks, AreSections, Precedes, all_spots, section_index}
-use Rattle.segment_cuts.proofs.Counting.{in_two, in_second, at_front, precedes_not_itself, levels_of_sections}
-use Rattle.segment_cuts.proofs.Placing.{all_parts}
+use Rattle.segment_cuts.proofs.Counting.{levels_of_sections}
 
 -- ---- two lists in order with the same spots are one
 
@@ -16,39 +17,8 @@ one_way marks s t (inl a) (inr b) = omega arith
 one_way marks s t (inr a) (inl b) = omega arith
 one_way marks s t (inr a) (inr b) = omega arith
 
-front_or_later : (t : Spot) (ts : List Spot) (s : Spot) (i : ℕ) → i < length (t ∷ ts) → get_or (t ∷ ts) i s ≡ s → (t ≡ s) ⊎ Contains ts s
-front_or_later t ts s zero below is = inl is
-front_or_later t ts s (suc i) below is = inr (i, omega arith, is)
-
-front_precedes : (marks : List Mark) (s : Spot) (ss : List Spot) → AllPairs (Precedes marks) (s ∷ ss) → (t : Spot) → Contains ss t → Precedes marks s t
-front_precedes marks s ss ordered t here = in_two (Precedes marks) (s ∷ []) ss ordered s t (at_front s []) here
-
-same_front : (marks : List Mark) (s t : Spot) (ss ts : List Spot) → AllPairs (Precedes marks) (s ∷ ss) → AllPairs (Precedes marks) (t ∷ ts) → (t ≡ s) ⊎ Contains ts s → (s ≡ t) ⊎ Contains ss t → s ≡ t
-same_front marks s t ss ts first second (inl is) _ = sym is
-same_front marks s t ss ts first second _ (inl is) = is
-same_front marks s t ss ts first second (inr here) (inr there) = absurd (one_way marks s t (front_precedes marks s ss first t there) (front_precedes marks t ts second s here))
-
-later_too : (marks : List Mark) (s t : Spot) (ss ts : List Spot) → AllPairs (Precedes marks) (s ∷ ss) → s ≡ t → (u : Spot) → Contains ss u → (t ≡ u) ⊎ Contains ts u → Contains ts u
-later_too marks s t ss ts ordered same u here (inr there) = there
-later_too marks s t ss ts ordered same u here (inl is) =
-    absurd (precedes_not_itself marks u (subst (λ (x : Spot). Precedes marks x u) (same ∙ is) (front_precedes marks s ss ordered u here)))
-
-behind : (s : Spot) (ss : List Spot) (u : Spot) → Contains ss u → Contains (s ∷ ss) u
-behind s ss u here = Contains-append_right (s ∷ []) ss u here
-
 one_line : (marks : List Mark) (ss ts : List Spot) → AllPairs (Precedes marks) ss → AllPairs (Precedes marks) ts → ((u : Spot) → Contains ss u ↔ Contains ts u) → ss ≡ ts
-one_line marks [] [] first second same = refl
-one_line marks [] (t ∷ ts) first second same = absurd (let here = (same t).1 (at_front t ts) in let below : here.0 < 0 = here.1 in omega arith)
-one_line marks (s ∷ ss) [] first second same = absurd (let here = (same s).0 (at_front s ss) in let below : here.0 < 0 = here.1 in omega arith)
-one_line marks (s ∷ ss) (t ∷ ts) first second same =
-    let here = (same s).0 (at_front s ss) in
-    let there = (same t).1 (at_front t ts) in
-    let front : s ≡ t = same_front marks s t ss ts first second (front_or_later t ts s here.0 here.1 here.2) (front_or_later s ss t there.0 there.1 there.2) in
-    let rest : ss ≡ ts = one_line marks ss ts (in_second (Precedes marks) (s ∷ []) ss first) (in_second (Precedes marks) (t ∷ []) ts second) (λ u. (
-      (λ inside. let at = (same u).0 (behind s ss u inside) in later_too marks s t ss ts first front u inside (front_or_later t ts u at.0 at.1 at.2)),
-      (λ inside. let at = (same u).1 (behind t ts u inside) in later_too marks t s ts ss second (sym front) u inside (front_or_later s ss u at.0 at.1 at.2)),
-    )) in
-    ap (λ (x : Spot). x ∷ ss) front ∙ ap (λ (zs : List Spot). t ∷ zs) rest
+one_line marks ss ts first second same = one_in_order (Precedes marks) ss ts (one_way marks) first second (λ u. (same u).0) (λ u. (same u).1)
 
 -- ---- sections of one line at ascending levels are one
 
@@ -80,7 +50,7 @@ first_level : (level : Spot → ℕ) (n : ℕ) (p : List Spot) (ps : List (List 
 first_level level n p ps stand k e below = let is : level (get_or p k e) ≡ n + 0 = stand.levels 0 p (omega arith) k e below in omega arith
 
 above_first : (level : Spot → ℕ) (n : ℕ) (p : List Spot) (ps : List (List Spot)) → StandFrom level n (p ∷ ps) → All (λ (s : Spot). n < level s) (all_spots ps)
-above_first level n p ps stand = all_parts (λ (s : Spot). n < level s) (λ (x : List Spot). x) ps (λ x here.
+above_first level n p ps stand = all_flat_map (λ (s : Spot). n < level s) (λ (x : List Spot). x) ps (λ x here.
     subst (All (λ (s : Spot). n < level s)) here.2 (λ k e below.
     let inside : here.0 < length ps = here.1 in
     let is : level (get_or (get_or ps here.0 x) k e) ≡ n + suc here.0 = stand.levels (suc here.0) x (omega arith) k e below in omega arith))

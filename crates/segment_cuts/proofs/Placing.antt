@@ -1,5 +1,5 @@
 -- The spots of marks, placed and sorted.
-use Rattle.std.proofs.Common.{◌≡◌, ℕ, zero, suc, ◌+◌, ◌*◌, ◌<◌, ◌≤◌, ◌⊎◌, inl, inr, ◌==◌, ◌&&◌, List, [], ◌∷◌, ◌++◌, length, get_or, map, Contains, cond, Bool, true, false, refl, sym, ap, ◌∙◌, subst, arith}
+use Rattle.std.proofs.Common.{◌≡◌, ℕ, suc, ◌+◌, ◌*◌, ◌<◌, ◌≤◌, ◌⊎◌, inl, inr, ◌==◌, ◌&&◌, List, [], ◌∷◌, ◌++◌, length, get_or, Contains, cond, Bool, true, false, refl, sym, ap, ◌∙◌, subst, arith}
 use Rattle.std.specs.List.{All, AllPairs, IsDistinct, flat_map}
 use Rattle.std.specs.List.Sorted.{IsPermutation, IsSortedBy}
 use Rattle.std.specs.Cmp.{IsStrictWeakOrder, IsTotalOrder}
@@ -7,10 +7,12 @@ use Rattle.std.specs.Ordering.{nat_cmp, ordering_then, is_lt, on, then_cmp}
 use Rattle.std.specs.declared.cmp.Ordering.{Ordering}
 use Rattle.std.proofs.lemmas.Bool.Decides.{nat_tests}
 use Rattle.std.proofs.lemmas.List.{length-map, get_or-map}
-use Rattle.std.proofs.lemmas.List.Elements.{All-nil, All-cons, All-append, All-contains, All-map, recursion_from_All, Contains-append_left, Contains-append_right}
+use Rattle.std.proofs.lemmas.List.Elements.{All-nil, All-cons, All-contains, All-map, recursion_from_All, Contains-append_right}
 use Rattle.std.proofs.lemmas.List.Sorted.{All-permutation, Contains-permutation, sorted_far, ranks_by}
 use Rattle.std.proofs.lemmas.Cmp.{nat_cmp_total, on_total, then_total}
 use Rattle.std.proofs.lemmas.Map.Keys.{IsDistinct-cons, IsDistinct-IsPermutation, apart_from_distinct}
+use Rattle.plain_laws.proofs.Each.{all_flat_map}
+use Rattle.plain_laws.proofs.Members.{contains_flat_map, contains_map}
 use Rattle.cim_words.specs.Limits.{most_length}
 use Rattle.cim_words.specs.declared.identifier.Id.{Id}
 use Rattle.segment_cuts.specs.declared.mark.Mark.{Mark}
@@ -22,21 +24,6 @@ use Rattle.segment_cuts.specs.Line.{IsLine, spots, placed_at, placed_of}
 use Rattle.segment_cuts.proofs.MarkLists.{length_is, length_within}
 
 -- ---- lists made of parts
-
-pub all_parts : {X Y : Type 0} (P : Y → Type 0) (f : X → List Y) (xs : List X) → ((x : X) → Contains xs x → All P (f x)) → All P (flat_map f xs)
-all_parts P f [] each = All-nil P
-all_parts {X} P f (x ∷ xs) each = All-append P (f x) (flat_map f xs) (each x (0, omega arith, refl)) (all_parts P f xs (λ y here. each y (suc here.0, (let below : here.0 < length xs = here.1 in omega arith), here.2)))
-
-in_part : {X Y : Type 0} (f : X → List Y) (xs : List X) (i : ℕ) (d : X) (y : Y) → i < length xs → Contains (f (get_or xs i d)) y → Contains (flat_map f xs) y
-in_part f [] i d y within here = absurd (omega arith)
-in_part f (x ∷ xs) zero d y within here = Contains-append_left (f x) (flat_map f xs) y here
-in_part f (x ∷ xs) (suc i) d y within here = Contains-append_right (f x) (flat_map f xs) y (in_part f xs i d y (omega arith) here)
-
-of_part : {X Y : Type 0} (f : X → List Y) (xs : List X) (x : X) (y : Y) → Contains xs x → Contains (f x) y → Contains (flat_map f xs) y
-of_part {X} f xs x y here inside = in_part f xs here.0 x y here.1 (subst (λ (z : X). Contains (f z) y) (sym here.2) inside)
-
-in_map : {X Y : Type 0} (f : X → Y) (xs : List X) (x : X) → Contains xs x → Contains (map f xs) (f x)
-in_map f xs x here = (here.0, (let below : here.0 < length xs = here.1 in omega (arith, length-map xs f)), get_or-map f xs here.0 x (f x) here.1 ∙ ap f here.2)
 
 one_item : {X : Type 0} (P : X → Type 0) (a : X) → P a → All P (a ∷ [])
 one_item P a here = All-cons P a [] here (All-nil P)
@@ -71,12 +58,12 @@ all_placed : (marks : List Mark) → AreMarks marks → All (IsPlaced marks) (pl
 all_placed marks are =
     All-cons (IsPlaced marks) (placed_end 0 EndOne) (placed_end 3000000000004 EndTwo ∷ flat_map placed_of marks) (record { on = tt; number_is = refl; identifier_is = refl })
     (All-cons (IsPlaced marks) (placed_end 3000000000004 EndTwo) (flat_map placed_of marks) (record { on = tt; number_is = refl; identifier_is = refl })
-    (all_parts (IsPlaced marks) placed_of marks (λ m here. placed_mark marks are m here m.divides refl)))
+    (all_flat_map (IsPlaced marks) placed_of marks (λ m here. placed_mark marks are m here m.divides refl)))
 
 -- ---- every spot is placed
 
 of_mark : (marks : List Mark) (m : Mark) → Contains marks m → (p : Placed) → Contains (placed_of m) p → Contains (placed_all marks) p
-of_mark marks m here p inside = Contains-append_right (placed_end 0 EndOne ∷ placed_end 3000000000004 EndTwo ∷ []) (flat_map placed_of marks) p (of_part placed_of marks m p here inside)
+of_mark marks m here p inside = Contains-append_right (placed_end 0 EndOne ∷ placed_end 3000000000004 EndTwo ∷ []) (flat_map placed_of marks) p (contains_flat_map placed_of marks m p here inside)
 
 sides : (m : Mark) → m.divides ≡ true → placed_of m ≡ placed_at m 1 (CutOne m.id) ∷ placed_at m 3 (CutTwo m.id) ∷ []
 sides m is = ap (λ (b : Bool). cond b (placed_at m 1 (CutOne m.id) ∷ placed_at m 3 (CutTwo m.id) ∷ []) (placed_at m 2 (Clamp m.id) ∷ [])) is
@@ -135,7 +122,7 @@ apart_marks : (ms : List Mark) → AllPairs (λ (m n : Mark). ¬ (m.id ≡ n.id)
 unfolding IsDistinct
 apart_marks [] different = tt
 apart_marks (m ∷ ms) different =
-    apart_mark m (flat_map placed_of ms) (all_parts (HasOtherId m) placed_of ms (λ n here. other_mark m n (λ same. different 0 (suc here.0) n (omega arith) (let below : here.0 < length ms = here.1 in omega arith) (ap (λ (k : ℕ). let i : Id = record { number = k } in i) same ∙ ap (λ (x : Mark). x.id) (sym here.2))) n.divides))
+    apart_mark m (flat_map placed_of ms) (all_flat_map (HasOtherId m) placed_of ms (λ n here. other_mark m n (λ same. different 0 (suc here.0) n (omega arith) (let below : here.0 < length ms = here.1 in omega arith) (ap (λ (k : ℕ). let i : Id = record { number = k } in i) same ∙ ap (λ (x : Mark). x.id) (sym here.2))) n.divides))
     (apart_marks ms (λ i j d less below. different (suc i) (suc j) d (omega arith) (omega arith))) m.divides
 
 abbrev IsInside : Placed → Type 0
@@ -155,7 +142,7 @@ apart_all marks are =
     (apart_marks marks are.different))
   where
     inside : All IsInside (flat_map placed_of marks)
-    inside = all_parts IsInside placed_of marks (λ m here. inside_mark m (length_within marks are m here) m.divides)
+    inside = all_flat_map IsInside placed_of marks (λ m here. inside_mark m (length_within marks are m here) m.divides)
 
 -- ---- sorted, they are the line
 
@@ -165,7 +152,7 @@ pub sorted_line : (marks : List Mark) → AreMarks marks → (lt : Placed → Pl
 sorted_line marks are lt order keys ys moved sorted = record {
   complete = λ s. (
     (λ here. All-contains (IsOn marks) (spots ys) s (All-map (IsOn marks) (λ (p : Placed). p.spot) ys (λ k d below. (placed k d below).on)) here),
-    (λ on. let there = each_there marks s on in subst (Contains (spots ys)) there.2 (in_map (λ (p : Placed). p.spot) ys there.0 (Contains-permutation (placed_all marks) ys there.0 moved there.1))),
+    (λ on. let there = each_there marks s on in subst (Contains (spots ys)) there.2 (contains_map (λ (p : Placed). p.spot) ys there.0 (Contains-permutation (placed_all marks) ys there.0 moved there.1))),
   );
   ordered = λ i j d less below. at i j d less (omega (arith, length-map ys (λ (p : Placed). p.spot)));
 }

@@ -4,14 +4,15 @@ use Rattle.std.specs.List.{AllPairs}
 use Rattle.std.proofs.lemmas.Bool.{cases_lt}
 use Rattle.std.proofs.lemmas.List.{get_or_default}
 use Rattle.std.proofs.lemmas.List.Elements.{Contains-get_or}
+use Rattle.plain_laws.proofs.Counts.{count_alike, count_none, count_one_more}
+use Rattle.plain_laws.proofs.Truth.{never_both}
 use Rattle.cim_words.specs.declared.identifier.Id.{Id}
 use Rattle.segment_cuts.specs.declared.mark.Mark.{Mark}
 use Rattle.segment_cuts.specs.declared.mark.Spot.{Spot}
 use Rattle.segment_cuts.specs.declared.mark.Spot.TheVariants.{EndOne, EndTwo, Clamp, CutOne, CutTwo}
 use Rattle.segment_cuts.specs.Sections.{AreMarks, IsOn, Precedes, length_of, number, identifier, cut_number, section_index}
 use Rattle.segment_cuts.specs.Line.{IsLine, Rises, begins}
-use Rattle.segment_cuts.proofs.Counts.{count_alike, count_one_more, count_none}
-use Rattle.segment_cuts.proofs.MarkLists.{length_of_mark, length_is, one_cut_there, one_index, never_at_cut, true_or_false}
+use Rattle.segment_cuts.proofs.MarkLists.{length_of_mark, length_is, one_cut_there, one_index, never_at_cut}
 use Rattle.segment_cuts.proofs.Levels.{lies_below, below, not_below, alike_below}
 
 -- ---- numbers along a line
@@ -100,9 +101,9 @@ stays marks are s t next within = count_alike (lies_below (number marks s)) (lie
 
         cases : (number marks (CutTwo m.id) ≤ number marks s) ⊎ ((CutTwo m.id ≡ t) ⊎ Precedes marks t (CutTwo m.id)) → ⊥
         cases (inl upto) = omega (arith, number_is)
-        cases (inr (inl same)) = true_or_false (begins t) (ap begins (sym same)) within
+        cases (inr (inl same)) = never_both (begins t) (ap begins (sym same)) within
         cases (inr (inr (inl before))) = omega (arith, number_is)
-        cases (inr (inr (inr tie))) = true_or_false (begins t) (begins_at marks m.length.mm t (tie.0 ∙ number_is)) within
+        cases (inr (inr (inr tie))) = never_both (begins t) (begins_at marks m.length.mm t (tie.0 ∙ number_is)) within
 
 -- ---- side two of a cut has one cut more below than the spot before it
 

@@ -11,7 +11,7 @@ use Rattle.std.proofs.lemmas.List.Sorted.{searchable_from_sorted}
 use Rattle.std.proofs.lemmas.Map.Keys.{Less-from_sorted}
 use Rattle.cim_words.specs.Order.{statement_order}
 use Rattle.cim_words.specs.declared.statement.Statement.{Statement}
-use Rattle.cim_words.proofs.Orders.{statement_order_total, tied_statements}
+use Rattle.cim_words.proofs.Orders.{statement_order_total, tied_statements_are_one}
 use Rattle.statement_set.specs.Set.{IsOrdered}
 
 -- an order that answers as the order of statements does orders as it
@@ -28,7 +28,7 @@ sorted list ordered k d low below =
     ap is_lt (statement_order_total.antisymm (get_or list (k + 1) d) (get_or list k d)) ∙ never_before (statement_order (get_or list k d) (get_or list (k + 1) d)) less
 
 found_here : (list : List Statement) (s : Statement) (r : Result ℕ ℕ) → IsSearchInRange r (length list) → IsBinarySearchResult (λ t. statement_order t s) list r → IsOrdered list → IsTrue (is_ok r) ↔ Contains list s
-found_here list s (Ok i) within at ordered = ((λ _. (i, within, tied_statements _ _ (at s))), (λ _. refl))
+found_here list s (Ok i) within at ordered = ((λ _. (i, within, tied_statements_are_one _ _ (at s))), (λ _. refl))
 found_here list s (Err i) within at ordered = (
   (λ h. absurd (false≢true h)),
   λ (k, below, is). absurd (never k below is (cases_lt k i)),

@@ -19,19 +19,19 @@ step_at {X} xs i x after h = record {
   left = sym (sym (drop-drop 1 i xs) ∙ ap (λ (ys : List X). drop 1 ys) h);
 }
 
-pub first_off : {X : Type 0} (left after : List X) (o : Option (Bor X)) (x : Bor X) → o ≡ Some x → YieldsFirstRef (λ l. l) left o after → left ≡ x.now ∷ after
-first_off {X} left after o x is steps = subst (λ (p : Option (Bor X)). YieldsFirstRef (λ l. l) left p after) is steps
+pub yields_first : {X : Type 0} (left after : List X) (o : Option (Bor X)) (x : Bor X) → o ≡ Some x → YieldsFirstRef (λ l. l) left o after → left ≡ x.now ∷ after
+yields_first {X} left after o x is steps = subst (λ (p : Option (Bor X)). YieldsFirstRef (λ l. l) left p after) is steps
 
-pub none_left : {X : Type 0} (left after : List X) (o : Option (Bor X)) → o ≡ None → YieldsFirstRef (λ l. l) left o after → left ≡ []
-none_left {X} left after o is steps = let ended : (left ≡ []) × (after ≡ []) = subst (λ (p : Option (Bor X)). YieldsFirstRef (λ l. l) left p after) is steps in ended.0
+pub yields_nothing : {X : Type 0} (left after : List X) (o : Option (Bor X)) → o ≡ None → YieldsFirstRef (λ l. l) left o after → left ≡ []
+yields_nothing {X} left after o is steps = let ended : (left ≡ []) × (after ≡ []) = subst (λ (p : Option (Bor X)). YieldsFirstRef (λ l. l) left p after) is steps in ended.0
 
 -- one more item
-pub step_more : {X : Type 0} (xs : List X) (i : ℕ) (left after : List X) (o : Option (Bor X)) (x : Bor X) → left ≡ drop i xs → o ≡ Some x → YieldsFirstRef (λ l. l) left o after → IsStep xs i x.now after
-step_more xs i left after o x at is steps = step_at xs i x.now after (sym at ∙ first_off left after o x is steps)
+pub yields_step : {X : Type 0} (xs : List X) (i : ℕ) (left after : List X) (o : Option (Bor X)) (x : Bor X) → left ≡ drop i xs → o ≡ Some x → YieldsFirstRef (λ l. l) left o after → IsStep xs i x.now after
+yields_step xs i left after o x at is steps = step_at xs i x.now after (sym at ∙ yields_first left after o x is steps)
 
 -- no more items
-pub step_none : {X : Type 0} (xs : List X) (i : ℕ) (left after : List X) (o : Option (Bor X)) → left ≡ drop i xs → o ≡ None → YieldsFirstRef (λ l. l) left o after → length xs ≤ i
-step_none xs i left after o at is steps = omega (arith, ap length (sym at ∙ none_left left after o is steps), length-drop i xs)
+pub yields_end : {X : Type 0} (xs : List X) (i : ℕ) (left after : List X) (o : Option (Bor X)) → left ≡ drop i xs → o ≡ None → YieldsFirstRef (λ l. l) left o after → length xs ≤ i
+yields_end xs i left after o at is steps = omega (arith, ap length (sym at ∙ yields_nothing left after o is steps), length-drop i xs)
 
 -- a chain over statements gives just those that are left
 pub YieldsList-from_about : {left : List Statement} (xs : List Statement) → left ≡ xs → YieldsList (YieldsFirstRef (λ (l : List Statement). l)) (λ (x : Bor Statement). x.now) left xs

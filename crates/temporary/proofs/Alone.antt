@@ -1,13 +1,13 @@
 -- Items of which each has an identifier of its own.
-use Rattle.std.proofs.Common.{◌≡◌, ℕ, suc, inl, inr, List, [], ◌∷◌, map, length, Bool, true, false, ◌==◌, cond, nat_eq, refl, ap, sym, ◌∙◌, subst, arith}
+use Rattle.std.proofs.Common.{◌≡◌, ℕ, suc, inl, inr, List, [], ◌∷◌, map, length, Bool, true, false, ◌==◌, cond, nat_eq, refl, ap, ◌∙◌, subst, arith}
 use Rattle.std.specs.List.{AllByRecursion, IsDistinct, filter}
-use Rattle.std.proofs.lemmas.Bool.Decides.{nat_tests}
-use Rattle.cim_model.proofs.ListMembers.{Among, among_filter}
-use Rattle.cim_model.proofs.Runs.{number_itself}
+use Rattle.plain_laws.proofs.Each.{each_read}
+use Rattle.plain_laws.proofs.Members.{Among, among_filter, among_nothing}
+use Rattle.plain_laws.proofs.Numbers.{equal_itself, equal_turned}
+use Rattle.plain_laws.proofs.Truth.{never_both}
 use Rattle.room_words.specs.Items.{item_number}
 use Rattle.room_words.specs.declared.items.TempItem.{TempItem}
 use Rattle.temporary.specs.Parts.{has_number}
-use Rattle.temporary.proofs.Tests.{flip}
 
 abbrev pub counted : ℕ → List TempItem → ℕ
 counted n items = length (filter (has_number n) items)
@@ -16,10 +16,7 @@ counted n items = length (filter (has_number n) items)
 
 none_step : (n : ℕ) (y : TempItem) (ys : List TempItem) (b : Bool) → (item_number y == n) ≡ b → length (cond b (y ∷ ys) ys) ≡ 0 → (nat_eq n (item_number y) ≡ false) × (length ys ≡ 0)
 none_step n y ys true is none = absurd (omega arith)
-none_step n y ys false is none = (turned (item_number y) n is, none)
-  where
-    turned : (m n : ℕ) → (m == n) ≡ false → nat_eq n m ≡ false
-    turned m n is = grind (arith, nat_tests)
+none_step n y ys false is none = (equal_turned n (item_number y) ∙ is, none)
 
 pub none_differ : (n : ℕ) (items : List TempItem) → counted n items ≡ 0 → AllByRecursion (λ (k : ℕ). nat_eq n k ≡ false) (map item_number items)
 none_differ n [] none = tt
@@ -28,10 +25,7 @@ none_differ n (y ∷ items) none =
     (here.0, none_differ n items here.1)
 
 counts_not : (n : ℕ) (y : TempItem) (ys : List TempItem) (b : Bool) → (item_number y == n) ≡ b → nat_eq n (item_number y) ≡ false → length ys ≡ 0 → length (cond b (y ∷ ys) ys) ≡ 0
-counts_not n y ys true is apart none = absurd (turned (item_number y) n is apart)
-  where
-    turned : (m n : ℕ) → (m == n) ≡ true → nat_eq n m ≡ false → ⊥
-    turned m n is apart = grind (arith, nat_tests)
+counts_not n y ys true is apart none = absurd (never_both (item_number y == n) is (equal_turned (item_number y) n ∙ apart))
 counts_not n y ys false is apart none = none
 
 differ_none : (n : ℕ) (items : List TempItem) → AllByRecursion (λ (k : ℕ). nat_eq n k ≡ false) (map item_number items) → counted n items ≡ 0
@@ -39,10 +33,6 @@ differ_none n [] apart = refl
 differ_none n (y ∷ items) apart = counts_not n y (filter (has_number n) items) (has_number n y) refl apart.0 (differ_none n items apart.1)
 
 -- ---- one of some has it
-
-empty_among : {X : Type 0} (xs : List X) (x : X) → length xs ≡ 0 → Among xs x → ⊥
-empty_among [] x none there = there
-empty_among (y ∷ xs) x none there = omega arith
 
 first_counts : (y : TempItem) (ys : List TempItem) (b : Bool) → b ≡ true → length (cond b (y ∷ ys) ys) ≡ suc (length ys)
 first_counts y ys true is = refl
@@ -58,7 +48,7 @@ not_first y ys false is one = one
 
 is_counted : (items : List TempItem) (one : TempItem) → Among items one → counted (item_number one) items ≡ 0 → ⊥
 is_counted items one there none =
-    empty_among (filter (has_number (item_number one)) items) one none (among_filter (has_number (item_number one)) items one there (number_itself (item_number one)))
+    among_nothing (filter (has_number (item_number one)) items) one none (among_filter (has_number (item_number one)) items one there (equal_itself (item_number one)))
 
 -- ---- each has one of its own
 
@@ -68,29 +58,16 @@ distinct_items [] each = tt
 distinct_items (x ∷ items) each =
     let n = item_number x in
     let first = each x (inl refl) in
-    let counts = first_counts x (filter (has_number n) items) (has_number n x) (number_itself n) in (
+    let counts = first_counts x (filter (has_number n) items) (has_number n x) (equal_itself n) in (
       none_differ n items (omega (arith, first, counts)),
       distinct_items items (λ one there. (rest_counts x (filter (has_number (item_number one)) items) (has_number (item_number one) x) (is_counted items one there) (each one (inr there))).1),
     )
-
-apart_at : (n : ℕ) (items : List TempItem) (one : TempItem) → AllByRecursion (λ (k : ℕ). nat_eq n k ≡ false) (map item_number items) → Among items one → (n == item_number one) ≡ false
-apart_at n [] one apart there = absurd there
-apart_at n (y ∷ items) one apart (inl is) = flip n (item_number one) ∙ ap (λ (z : TempItem). nat_eq n (item_number z)) (sym is) ∙ apart.0
-apart_at n (y ∷ items) one apart (inr there) = apart_at n items one apart.1 there
 
 pub alone_items : (items : List TempItem) → IsDistinct nat_eq (map item_number items) → (one : TempItem) → Among items one → length (filter (has_number (item_number one)) items) ≡ 1
 unfolding IsDistinct
 alone_items [] distinct one there = absurd there
 alone_items (x ∷ items) distinct one (inl is) =
     subst (λ (z : TempItem). length (filter (has_number (item_number z)) (x ∷ items)) ≡ 1) is
-    (first_counts x (filter (has_number (item_number x)) items) (has_number (item_number x) x) (number_itself (item_number x)) ∙ ap suc (differ_none (item_number x) items distinct.0))
+    (first_counts x (filter (has_number (item_number x)) items) (has_number (item_number x) x) (equal_itself (item_number x)) ∙ ap suc (differ_none (item_number x) items distinct.0))
 alone_items (x ∷ items) distinct one (inr there) =
-    not_first x (filter (has_number (item_number one)) items) (has_number (item_number one) x) (apart_at (item_number x) items one distinct.0 there) (alone_items items distinct.1 one there)
-
--- ---- two that have different numbers
-
-pub numbers_apart : (items : List TempItem) (n : ℕ) (one : TempItem) → AllByRecursion (λ (k : ℕ). nat_eq n k ≡ false) (map item_number items) → Among items one → n ≡ item_number one → ⊥
-numbers_apart items n one apart there same =
-    let is : (n == item_number one) ≡ true = ap (λ (k : ℕ). k == item_number one) same ∙ number_itself (item_number one) in
-    let both : true ≡ false = sym is ∙ apart_at n items one apart there in
-    cc
+    not_first x (filter (has_number (item_number one)) items) (has_number (item_number one) x) (each_read (λ n. nat_eq (item_number x) n ≡ false) item_number items one distinct.0 there) (alone_items items distinct.1 one there)

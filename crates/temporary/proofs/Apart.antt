@@ -1,27 +1,28 @@
 -- Marks of one segment that are apart, those of the model and those of the items.
-use Rattle.std.proofs.Common.{◌≡◌, ℕ, suc, inl, inr, List, [], ◌∷◌, ◌++◌, map, length, Bool, true, false, not, ◌&&◌, ◌||◌, ◌==◌, cond, nat_eq, Option, Some, None, refl, ap, sym, ◌∙◌, subst, arith}
-use Rattle.std.specs.List.{All, AllPairs, IsDistinct, cons_option, filter, filter_map, list_all}
+use Rattle.std.proofs.Common.{◌≡◌, ℕ, inl, inr, List, [], ◌∷◌, ◌++◌, map, Bool, true, false, not, ◌&&◌, ◌||◌, ◌==◌, cond, nat_eq, Option, Some, None, refl, ap, sym, ◌∙◌, subst, arith}
+use Rattle.std.specs.List.{AllPairs, IsDistinct, cons_option, filter_map, list_all}
 use Rattle.std.proofs.lemmas.List.Kept.{AllPairs-cons}
-use Rattle.std.proofs.lemmas.Option.{same_Some}
+use Rattle.std.proofs.lemmas.Bool.{and_from, eqb-false, eqb-true}
+use Rattle.cim_model.proofs.LiveMarks.{mark_has_item_id}
+use Rattle.plain_laws.proofs.Each.{all_from_among, each_read}
+use Rattle.plain_laws.proofs.Filters.{filter_map_filter}
+use Rattle.plain_laws.proofs.Members.{Among, among_filter_map, contains_among, filter_map_among}
+use Rattle.plain_laws.proofs.Numbers.{equal_itself}
+use Rattle.plain_laws.proofs.Pairs.{pairs_across, pairs_any, pairs_append, pairs_second}
+use Rattle.plain_laws.proofs.Tests.{all_among, among_all}
+use Rattle.plain_laws.proofs.Truth.{and_first, and_second}
 use Rattle.cim_words.specs.declared.length.Length.{Length}
 use Rattle.cim_words.specs.declared.statement.Statement.{Statement}
 use Rattle.cim_model.specs.Live.{item_segment_number}
 use Rattle.cim_model.specs.Marks.{is_item_on, item_mark, marks_of, marks_on}
 use Rattle.cim_model.specs.Stands.{AreApart}
-use Rattle.cim_model.specs.Values.{as_length}
-use Rattle.cim_model.proofs.ListMembers.{Among, among_either, among_filter_map, among_right, contains_among, filter_map_among}
-use Rattle.cim_model.proofs.MarkLists.{is_this}
-use Rattle.cim_model.proofs.Pairs.{among_index}
-use Rattle.cim_model.proofs.Runs.{number_itself, same_number}
-use Rattle.cim_model.proofs.SaidLemmas.{both, both_left, both_right}
+use Rattle.cim_model.specs.Values.{as_length, number_of_id}
+use Rattle.cim_model.proofs.MarkLists.{some_number_is}
 use Rattle.room_words.specs.Items.{item_number}
 use Rattle.room_words.specs.declared.items.TempItem.{TempItem}
-use Rattle.room_words.specs.declared.items.TempItem.TheVariants as item
 use Rattle.room_words.specs.declared.overlay.Overlay.{Overlay}
 use Rattle.segment_cuts.specs.declared.mark.Mark.{Mark}
 use Rattle.temporary.specs.Parts.{if_there, is_apart, is_apart_at_home, is_beside, mark_on, may_share}
-use Rattle.temporary.proofs.Alone.{numbers_apart}
-use Rattle.temporary.proofs.Tests.{all_pass, each_passes}
 
 -- ---- two marks
 
@@ -41,69 +42,26 @@ may_cut true false false shares = refl
 may_cut false a b shares = refl
 
 shares : (a b : Mark) → may_share a b ≡ true → Shares a b
-shares a b may same = neither_cut (a.length.mm == b.length.mm) a.divides b.divides may (ap (λ (l : Length). l.mm == b.length.mm) same ∙ number_itself b.length.mm)
+shares a b may same = neither_cut (a.length.mm == b.length.mm) a.divides b.divides may (ap (λ (l : Length). l.mm == b.length.mm) same ∙ equal_itself b.length.mm)
 
 may : (a b : Mark) → Shares a b → may_share a b ≡ true
-may a b shares = may_cut (a.length.mm == b.length.mm) a.divides b.divides (λ level. shares (ap as_length (same_number a.length.mm b.length.mm level)))
+may a b shares = may_cut (a.length.mm == b.length.mm) a.divides b.divides (λ level. shares (ap as_length (eqb-true a.length.mm b.length.mm level)))
 
 turned : (a b : Mark) → Shares a b → Shares b a
 turned a b shares same = let is = shares (sym same) in (is.1, is.0)
 
 -- ---- lists of marks
 
-all_of : {X : Type 0} (P : X → Type 0) (xs : List X) → ((x : X) → Among xs x → P x) → All P xs
-all_of P xs each k d below = each _ (among_index xs k d below)
-
-first_shares : (x : Mark) (xs : List Mark) → AllPairs Shares (x ∷ xs) → (other : Mark) → Among xs other → Shares x other
-first_shares x xs pairs other there =
-    let at = contains_among xs other there in
-    subst (Shares x) at.2 (pairs 0 (suc at.0) other (omega arith) (omega (arith, at.1)))
-
-rest_share : (x : Mark) (xs : List Mark) → AllPairs Shares (x ∷ xs) → AllPairs Shares xs
-rest_share x xs pairs = λ i j d less below. pairs (suc i) (suc j) d (omega arith) (omega arith)
-
-joined : (xs ys : List Mark) → AllPairs Shares xs → AllPairs Shares ys → ((a b : Mark) → Among xs a → Among ys b → Shares a b) → AllPairs Shares (xs ++ ys)
-joined [] ys first second across = second
-joined (x ∷ xs) ys first second across =
-    AllPairs-cons Shares x (xs ++ ys) (all_of (Shares x) (xs ++ ys) (λ other there. elim (among_either xs ys other there) [
-      | inl here ↦ first_shares x xs first other here
-      | inr later ↦ across x other (inl refl) later
-    ])) (joined xs ys (rest_share x xs first) second (λ a b here there. across a b (inr here) there))
-
-across_shares : (xs ys : List Mark) (a b : Mark) → AllPairs Shares (xs ++ ys) → Among xs a → Among ys b → Shares a b
-across_shares [] ys a b pairs here there = absurd here
-across_shares (x ∷ xs) ys a b pairs (inl is) there = subst (λ (z : Mark). Shares z b) is (first_shares x (xs ++ ys) pairs b (among_right xs ys b there))
-across_shares (x ∷ xs) ys a b pairs (inr here) there = across_shares xs ys a b (rest_share x (xs ++ ys) pairs) here there
-
-second_share : (xs ys : List Mark) → AllPairs Shares (xs ++ ys) → AllPairs Shares ys
-second_share [] ys pairs = pairs
-second_share (x ∷ xs) ys pairs = second_share xs ys (rest_share x (xs ++ ys) pairs)
-
 any_share : (xs : List Mark) (a b : Mark) → AllPairs Shares xs → Among xs a → Among xs b → (a ≡ b → ⊥) → Shares a b
-any_share [] a b pairs here there apart = absurd here
-any_share (x ∷ xs) a b pairs (inl is) (inl also) apart = absurd (apart (sym is ∙ also))
-any_share (x ∷ xs) a b pairs (inl is) (inr there) apart = subst (λ (z : Mark). Shares z b) is (first_shares x xs pairs b there)
-any_share (x ∷ xs) a b pairs (inr here) (inl is) apart = turned b a (subst (λ (z : Mark). Shares z a) is (first_shares x xs pairs a here))
-any_share (x ∷ xs) a b pairs (inr here) (inr there) apart = any_share xs a b (rest_share x xs pairs) here there apart
+any_share xs a b pairs here there apart = elim (pairs_any Shares xs pairs a b (contains_among xs a here) (contains_among xs b there)) [
+  | inl share ↦ share
+  | inr others ↦ elim others [ inl is ↦ absurd (apart is) | inr share ↦ turned b a share ]
+]
 
 -- ---- the marks of items
 
-one_mark : (one : TempItem) (kept : List TempItem) (b : Bool) → filter_map item_mark (cond b (one ∷ kept) kept) ≡ cons_option (cond b (item_mark one) None) (filter_map item_mark kept)
-one_mark one kept true = refl
-one_mark one kept false = refl
-
-gathered : (x : ℕ) (items : List TempItem) → filter_map item_mark (filter (is_item_on x) items) ≡ filter_map (mark_on x) items
-gathered x [] = refl
-gathered x (one ∷ items) = rw (one_mark one (filter (is_item_on x) items) (is_item_on x one)) (ap (cons_option (mark_on x one)) (gathered x items))
-
-mark_number : (one : TempItem) (mark : Mark) → item_mark one ≡ Some mark → mark.id.number ≡ item_number one
-mark_number (item.Cut id segment length is_open) mark is = sym (ap (λ (m : Mark). m.id.number) (same_Some _ mark is))
-mark_number (item.Clamp id segment length) mark is = sym (ap (λ (m : Mark). m.id.number) (same_Some _ mark is))
-mark_number (item.Jumper id first second phases is_open) mark is = absurd cc
-mark_number (item.Ground id at phases) mark is = absurd cc
-
 number_if : (one : TempItem) (mark : Mark) (b : Bool) → cond b (item_mark one) None ≡ Some mark → mark.id.number ≡ item_number one
-number_if one mark true is = mark_number one mark is
+number_if one mark true is = sym (ap number_of_id (mark_has_item_id one mark is))
 number_if one mark false is = absurd cc
 
 number_on : (x : ℕ) (one : TempItem) (mark : Mark) → mark_on x one ≡ Some mark → mark.id.number ≡ item_number one
@@ -116,7 +74,7 @@ next_item : (x : ℕ) (one : TempItem) (items : List TempItem) (found : Option M
     → AllPairs Shares (filter_map (mark_on x) items) → AllPairs Shares (cons_option found (filter_map (mark_on x) items))
 next_item x one items None is each rest = rest
 next_item x one items (Some a) is each rest =
-    AllPairs-cons Shares a (filter_map (mark_on x) items) (all_of (Shares a) (filter_map (mark_on x) items) (λ b there.
+    AllPairs-cons Shares a (filter_map (mark_on x) items) (all_from_among (Shares a) (filter_map (mark_on x) items) (λ b there.
     let from = filter_map_among (mark_on x) items b there in
     each a b from.0 is from.1 from.2)) rest
 
@@ -126,7 +84,7 @@ items_share : (x : ℕ) (items : List TempItem) → IsDistinct nat_eq (map item_
 unfolding IsDistinct
 items_share x [] distinct each = λ i j d less below. absurd (omega arith)
 items_share x (one ∷ items) distinct each =
-    next_item x one items (mark_on x one) refl (λ a b other is there on. each one other a b (inl refl) (inr there) (numbers_apart items (item_number one) other distinct.0 there) is on)
+    next_item x one items (mark_on x one) refl (λ a b other is there on. each one other a b (inl refl) (inr there) (eqb-false (item_number one) (item_number other) (each_read (λ n. nat_eq (item_number one) n ≡ false) item_number items other distinct.0 there)) is on)
     (items_share x items distinct.1 (λ one' other a b here there apart is on. each one' other a b (inr here) (inr there) apart is on))
 
 apart_parts : (m : List Statement) (o : Overlay) (x : ℕ) (one : TempItem) (mark : Mark) → mark_on x one ≡ Some mark → is_apart m o x one ≡ true
@@ -134,10 +92,10 @@ apart_parts : (m : List Statement) (o : Overlay) (x : ℕ) (one : TempItem) (mar
 apart_parts m o x one mark is apart =
     let test : Option Mark → Bool = λ (found : Option Mark). if_there found (λ (mark : Mark). list_all (may_share mark) (marks_of m x) && list_all (is_beside x mark) o.items) in
     let passes : (list_all (may_share mark) (marks_of m x) && list_all (is_beside x mark) o.items) ≡ true = sym (ap test is) ∙ apart in
-    (both_left _ _ passes, both_right _ _ passes)
+    (and_first _ _ passes, and_second _ _ passes)
 
 beside_if : (a b : Mark) (same : Bool) → (b.id.number == a.id.number) ≡ same → (a.id.number ≡ b.id.number → ⊥) → (same || may_share a b) ≡ true → may_share a b ≡ true
-beside_if a b true is apart passes = absurd (apart (sym (same_number b.id.number a.id.number is)))
+beside_if a b true is apart passes = absurd (apart (sym (eqb-true b.id.number a.id.number is)))
 beside_if a b false is apart passes = passes
 
 beside_shares : (x : ℕ) (a b : Mark) (other : TempItem) → mark_on x other ≡ Some b → (a.id.number ≡ b.id.number → ⊥) → is_beside x a other ≡ true → Shares a b
@@ -148,19 +106,19 @@ beside_shares x a b other is apart passes =
 pub apart_marks : (m : List Statement) (o : Overlay) (x : ℕ) → IsDistinct nat_eq (map item_number o.items) → AreApart (marks_of m x)
     → ((one : TempItem) → Among o.items one → is_apart m o x one ≡ true) → AreApart (marks_on m o x)
 apart_marks m o x distinct model each =
-    subst (λ (marks : List Mark). AllPairs Shares (marks_of m x ++ marks)) (sym (gathered x o.items))
-    (joined (marks_of m x) (filter_map (mark_on x) o.items) model (items_share x o.items distinct (λ one other a b here there apart is on.
+    subst (λ (marks : List Mark). AllPairs Shares (marks_of m x ++ marks)) (sym (filter_map_filter (is_item_on x) item_mark o.items))
+    (pairs_append Shares (marks_of m x) (filter_map (mark_on x) o.items) model (items_share x o.items distinct (λ one other a b here there apart is on.
     beside_shares x a b other on (λ same. apart (sym (number_on x one a is) ∙ same ∙ number_on x other b on))
-    (each_passes (is_beside x a) o.items (apart_parts m o x one a is (each one here)).1 other there)))
+    (all_among (is_beside x a) o.items (apart_parts m o x one a is (each one here)).1 other there)))
     (λ a b here there.
     let from = filter_map_among (mark_on x) o.items b there in
-    turned b a (shares b a (each_passes (may_share b) (marks_of m x) (apart_parts m o x from.0 b from.2 (each from.0 from.1)).0 a here))))
+    turned b a (shares b a (all_among (may_share b) (marks_of m x) (apart_parts m o x from.0 b from.2 (each from.0 from.1)).0 a here))))
 
 -- ---- and each is apart where they are apart in pairs
 
 beside_case : (a b : Mark) (same : Bool) → (b.id.number == a.id.number) ≡ same → ((a ≡ b → ⊥) → Shares a b) → (same || may_share a b) ≡ true
 beside_case a b true is share = refl
-beside_case a b false is share = may a b (share (λ alike. let itself : (b.id.number == a.id.number) ≡ true = ap (λ (z : Mark). b.id.number == z.id.number) alike ∙ number_itself b.id.number in
+beside_case a b false is share = may a b (share (λ alike. let itself : (b.id.number == a.id.number) ≡ true = ap (λ (z : Mark). b.id.number == z.id.number) alike ∙ equal_itself b.id.number in
     let no : true ≡ false = sym itself ∙ is in cc))
 
 beside_on : (x : ℕ) (a : Mark) (items : List TempItem) (other : TempItem) (found : Option Mark) → mark_on x other ≡ found → Among items other → AllPairs Shares (filter_map (mark_on x) items)
@@ -174,18 +132,18 @@ apart_if : (m : List Statement) (o : Overlay) (x : ℕ) (one : TempItem) (found 
 apart_if m o x one None is there pairs = refl
 apart_if m o x one (Some mark) is there pairs =
     let among = among_filter_map (mark_on x) o.items one mark there is in
-    both _ _ (all_pass (may_share mark) (marks_of m x) (λ other has. may mark other (turned other mark (across_shares (marks_of m x) (filter_map (mark_on x) o.items) other mark pairs has among))))
-    (all_pass (is_beside x mark) o.items (λ other has. beside_on x mark o.items other (mark_on x other) refl has (second_share (marks_of m x) (filter_map (mark_on x) o.items) pairs) among))
+    and_from _ _ (among_all (may_share mark) (marks_of m x) (λ other has. may mark other (turned other mark (pairs_across Shares (marks_of m x) (filter_map (mark_on x) o.items) pairs other mark (contains_among (marks_of m x) other has) (contains_among (filter_map (mark_on x) o.items) mark among)))))
+    (among_all (is_beside x mark) o.items (λ other has. beside_on x mark o.items other (mark_on x other) refl has (pairs_second Shares (marks_of m x) (filter_map (mark_on x) o.items) pairs) among))
 
 pub apart_each : (m : List Statement) (o : Overlay) (x : ℕ) → AreApart (marks_on m o x) → (one : TempItem) → Among o.items one → is_apart m o x one ≡ true
 apart_each m o x apart one there =
-    apart_if m o x one (mark_on x one) refl there (subst (λ (marks : List Mark). AllPairs Shares (marks_of m x ++ marks)) (gathered x o.items) apart)
+    apart_if m o x one (mark_on x one) refl there (subst (λ (marks : List Mark). AllPairs Shares (marks_of m x ++ marks)) (filter_map_filter (is_item_on x) item_mark o.items) apart)
 
 -- ---- at the segment on which it stands
 
 elsewhere : (m : List Statement) (o : Overlay) (x : ℕ) (one : TempItem) (b : Bool) → is_item_on x one ≡ b → is_apart_at_home m o one ≡ true → is_apart m o x one ≡ true
 elsewhere m o x one true on apart =
-    let home : item_segment_number one ≡ Some x = is_this x (item_segment_number one) on in
+    let home : item_segment_number one ≡ Some x = some_number_is x (item_segment_number one) on in
     sym (ap (λ (found : Option ℕ). if_there found (λ (x : ℕ). is_apart m o x one)) home) ∙ apart
 elsewhere m o x one false on apart =
     ap (λ (b : Bool). if_there (cond b (item_mark one) None) (λ (mark : Mark). list_all (may_share mark) (marks_of m x) && list_all (is_beside x mark) o.items)) on

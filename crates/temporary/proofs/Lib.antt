@@ -2,6 +2,5 @@ pub mod Alone
 pub mod Apart
 pub mod Ascending
 pub mod Counts
-pub mod Firsts
 pub mod Tests
 pub mod Whole

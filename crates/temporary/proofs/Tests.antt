@@ -1,20 +1,9 @@
--- What tests of a whole list and of two things say.
-use Rattle.std.proofs.Common.{◌≡◌, ℕ, ◌≤◌, inl, inr, List, [], ◌∷◌, Bool, true, false, ◌&&◌, ◌==◌, nat_eq, nat_le, Option, Some, None, IfSome, refl, arith, subst}
-use Rattle.std.specs.List.{list_all}
-use Rattle.std.proofs.lemmas.Bool.Decides.{nat_tests}
-use Rattle.cim_model.proofs.ListMembers.{Among}
-use Rattle.cim_model.proofs.SaidLemmas.{both, both_left, both_right}
+-- What tests say of what there may be, and of the first of a list that fails them.
+use Rattle.std.proofs.Common.{◌≡◌, inl, inr, List, [], ◌∷◌, Bool, true, false, Option, Some, None, IfSome, refl, subst, not, cond, find, ap, sym, ◌∙◌}
+use Rattle.std.proofs.lemmas.Option.{same_Some}
+use Rattle.temporary.specs.Lost.{AllHave, IsFirstWithout}
+use Rattle.plain_laws.proofs.Members.{Among, among_contained, contains_among}
 use Rattle.temporary.specs.Parts.{if_there}
-
--- of each element
-pub each_passes : {X : Type 0} (p : X → Bool) (xs : List X) → list_all p xs ≡ true → (x : X) → Among xs x → p x ≡ true
-each_passes p [] all x there = absurd there
-each_passes p (y ∷ xs) all x (inl is) = subst (λ (z : _). p z ≡ true) is (both_left (p y) (list_all p xs) all)
-each_passes p (y ∷ xs) all x (inr there) = each_passes p xs (both_right (p y) (list_all p xs) all) x there
-
-pub all_pass : {X : Type 0} (p : X → Bool) (xs : List X) → ((x : X) → Among xs x → p x ≡ true) → list_all p xs ≡ true
-all_pass p [] each = refl
-all_pass p (y ∷ xs) each = both (p y) (list_all p xs) (each y (inl refl)) (all_pass p xs (λ x there. each x (inr there)))
 
 -- of what there may be
 pub there_passes : {X : Type 0} (p : X → Bool) (P : X → Type 0) (found : Option X) → ((x : X) → p x ≡ true → P x) → if_there found p ≡ true → IfSome found P
@@ -25,25 +14,39 @@ pub passes_there : {X : Type 0} (p : X → Bool) (P : X → Type 0) (found : Opt
 passes_there p P None means is = refl
 passes_there p P (Some x) means is = means x is
 
--- of numbers
-pub at_most : (m n : ℕ) → nat_le m n ≡ true → m ≤ n
-at_most m n is = grind (arith, nat_tests)
+-- of the first that fails
+module _ {X : Type 0} (p : X → Bool) (P : X → Type 0) (to : (x : X) → p x ≡ true → P x) (from : (x : X) → P x → p x ≡ true) where
+  none_if : (y : X) (xs : List X) (b : Bool) → p y ≡ b → cond (not b) (Some y) (find (λ (x : X). not (p x)) xs) ≡ None → (P y) × (find (λ (x : X). not (p x)) xs ≡ None)
+  none_if y xs true is none = (to y is, none)
+  none_if y xs false is none = absurd cc
 
-pub most_at : (m n : ℕ) → m ≤ n → nat_le m n ≡ true
-most_at m n is = grind (arith, nat_tests)
+  none_among : (xs : List X) → find (λ (x : X). not (p x)) xs ≡ None → (x : X) → Among xs x → P x
+  none_among [] none x there = absurd there
+  none_among (y ∷ xs) none x (inl is) = subst P is (none_if y xs (p y) refl none).0
+  none_among (y ∷ xs) none x (inr there) = none_among xs (none_if y xs (p y) refl none).1 x there
 
-pub flip : (m n : ℕ) → (m == n) ≡ nat_eq m n
-flip m n = grind (arith, nat_tests)
+  pub all_have : (xs : List X) → find (λ (x : X). not (p x)) xs ≡ None → AllHave P xs
+  all_have xs none x there = none_among xs none x (among_contained xs x there)
 
--- of three tests
-pub three : (a b c : Bool) → (a && b && c) ≡ true → (a ≡ true) × (b ≡ true) × (c ≡ true)
-three true true true is = (refl, refl, refl)
-three true true false is = absurd cc
-three true false c is = absurd cc
-three false b c is = absurd cc
+  put_first : (y : X) (xs : List X) (x : X) → P y → IsFirstWithout P xs x → IsFirstWithout P (y ∷ xs) x
+  put_first y xs x holds is = record {
+    before = y ∷ is.before;
+    after = is.after;
+    listed = ap (λ (rest : List X). y ∷ rest) is.listed;
+    have = λ z there. elim (among_contained (y ∷ is.before) z there) [ inl same ↦ subst P same holds | inr later ↦ is.have z (contains_among is.before z later) ];
+    without = is.without;
+  }
 
-pub all_three : (a b c : Bool) → a ≡ true → b ≡ true → c ≡ true → (a && b && c) ≡ true
-all_three true true true first second third = refl
-all_three true true false first second third = absurd cc
-all_three true false c first second third = absurd cc
-all_three false b c first second third = absurd cc
+  first_if : (y : X) (xs : List X) (x : X) (b : Bool) → p y ≡ b → (find (λ (x : X). not (p x)) xs ≡ Some x → IsFirstWithout P xs x) → cond (not b) (Some y) (find (λ (x : X). not (p x)) xs) ≡ Some x → IsFirstWithout P (y ∷ xs) x
+  first_if y xs x true is rest found = put_first y xs x (to y is) (rest found)
+  first_if y xs x false is rest found = record {
+    before = [];
+    after = xs;
+    listed = ap (λ (z : X). z ∷ xs) (same_Some y x found);
+    have = λ z there. absurd (among_contained [] z there);
+    without = λ holds. let no : true ≡ false = sym (from x holds) ∙ ap p (sym (same_Some y x found)) ∙ is in cc;
+  }
+
+  pub first_without : (xs : List X) (x : X) → find (λ (x : X). not (p x)) xs ≡ Some x → IsFirstWithout P xs x
+  first_without [] x found = absurd cc
+  first_without (y ∷ xs) x found = first_if y xs x (p y) refl (first_without xs x) found

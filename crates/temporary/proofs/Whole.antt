@@ -1,6 +1,12 @@
 -- An overlay stands exactly where it passes the tests.
-use Rattle.std.proofs.Common.{◌≡◌, ℕ, ◌≤◌, inl, inr, List, [], ◌∷◌, map, length, Bool, true, false, not, ◌==◌, nat_eq, nat_le, IsTrue, Option, Some, None, IfSome, Contains, refl, ap, subst}
+use Rattle.std.proofs.Common.{◌≡◌, ℕ, ◌≤◌, inl, inr, List, [], ◌∷◌, map, length, true, false, not, ◌==◌, nat_eq, nat_le, IsTrue, Option, Some, None, IfSome, Contains, refl, ap}
 use Rattle.std.specs.List.{list_all, IsDistinct}
+use Rattle.std.proofs.lemmas.Bool.{and_from, eqb-true, le-leb, leb-true, not-true, not_from_false}
+use Rattle.std.proofs.lemmas.Option.{IfSome_then}
+use Rattle.plain_laws.proofs.Each.{each_among}
+use Rattle.plain_laws.proofs.Members.{Among, among_contained, contains_among, contains_nothing}
+use Rattle.plain_laws.proofs.Tests.{all_among, among_all}
+use Rattle.plain_laws.proofs.Truth.{and_first, and_from_three, and_second, and_three}
 use Rattle.cim_words.specs.Groups.{is_segment}
 use Rattle.cim_words.specs.Phases.{has_no_phase}
 use Rattle.cim_words.specs.declared.phases.PhaseSet.{PhaseSet}
@@ -11,10 +17,6 @@ use Rattle.cim_model.specs.Marks.{marks_of, marks_on}
 use Rattle.cim_model.specs.Model.{is_of, is_subject}
 use Rattle.cim_model.specs.Network.{length_in}
 use Rattle.cim_model.specs.Stands.{AreApart, ItemStands, LiesOn, Stands}
-use Rattle.cim_model.proofs.ContainsCases.{contains_nothing}
-use Rattle.cim_model.proofs.ListMembers.{Among, among_contained, contains_among}
-use Rattle.cim_model.proofs.Runs.{same_number}
-use Rattle.cim_model.proofs.SaidLemmas.{both, both_left, both_right}
 use Rattle.room_words.specs.Items.{anchors, item_length, item_number, item_phases}
 use Rattle.room_words.specs.Terms.{same_anchor}
 use Rattle.room_words.specs.declared.anchor.Anchor.{Anchor}
@@ -24,17 +26,9 @@ use Rattle.room_words.specs.declared.overlay.Overlay.{Overlay}
 use Rattle.temporary.specs.Parts.{Passes, bears, does_stand, finds, is_alone, is_apart, is_apart_at_home, is_borne, is_good, is_of_switch, is_sound, lies_on, takes}
 use Rattle.temporary.proofs.Alone.{alone_items, distinct_items}
 use Rattle.temporary.proofs.Apart.{apart_anywhere, apart_each, apart_marks}
-use Rattle.temporary.proofs.Tests.{all_pass, all_three, at_most, each_passes, most_at, passes_there, there_passes, three}
+use Rattle.temporary.proofs.Tests.{passes_there, there_passes}
 
 -- ---- a test and its contrary
-
-is_false : (b : Bool) → not b ≡ true → b ≡ false
-is_false true is = absurd cc
-is_false false is = refl
-
-not_false : (b : Bool) → b ≡ false → not b ≡ true
-not_false true is = absurd cc
-not_false false is = refl
 
 -- ---- a segment that bears a mark
 
@@ -45,21 +39,21 @@ pub record Bears (m : List Statement) (o : Overlay) (x at : ℕ) : Type 0 where
 
 lies : (m : List Statement) (x at : ℕ) → lies_on m x at ≡ true → LiesOn m x at
 lies m x at is = record {
-  limit = at_most at most_length (both_left _ _ is);
-  stated = there_passes (λ (limit : ℕ). nat_le at limit) (λ (limit : ℕ). at ≤ limit) (length_in m x) (λ limit. at_most at limit) (both_right (nat_le at most_length) _ is);
+  limit = leb-true at most_length (and_first _ _ is);
+  stated = there_passes (λ (limit : ℕ). nat_le at limit) (λ (limit : ℕ). at ≤ limit) (length_in m x) (λ limit. leb-true at limit) (and_second (nat_le at most_length) _ is);
 }
 
 on_it : (m : List Statement) (x at : ℕ) → LiesOn m x at → lies_on m x at ≡ true
 on_it m x at lies =
-    both _ _ (most_at at most_length lies.limit) (passes_there (λ (limit : ℕ). nat_le at limit) (λ (limit : ℕ). at ≤ limit) (length_in m x) (λ limit. most_at at limit) lies.stated)
+    and_from _ _ (le-leb at most_length lies.limit) (passes_there (λ (limit : ℕ). nat_le at limit) (λ (limit : ℕ). at ≤ limit) (length_in m x) (λ limit. le-leb at limit) lies.stated)
 
 borne : (m : List Statement) (o : Overlay) (x at : ℕ) → bears m o x at ≡ true → Bears m o x at
 borne m o x at is =
-    let parts = three (is_of m is_segment x) (lies_on m x at) (nat_le (length (marks_on m o x)) most_marks) is in
-    record { segment = parts.0; lies = lies m x at parts.1; few = at_most _ most_marks parts.2 }
+    let parts = and_three (is_of m is_segment x) (lies_on m x at) (nat_le (length (marks_on m o x)) most_marks) is in
+    record { segment = parts.0; lies = lies m x at parts.1; few = leb-true _ most_marks parts.2 }
 
 bearing : (m : List Statement) (o : Overlay) (x at : ℕ) → Bears m o x at → bears m o x at ≡ true
-bearing m o x at is = all_three (is_of m is_segment x) (lies_on m x at) (nat_le (length (marks_on m o x)) most_marks) is.segment (on_it m x at is.lies) (most_at _ most_marks is.few)
+bearing m o x at is = and_from_three (is_of m is_segment x) (lies_on m x at) (nat_le (length (marks_on m o x)) most_marks) is.segment (on_it m x at is.lies) (le-leb _ most_marks is.few)
 
 -- ---- a place that takes a terminal
 
@@ -67,20 +61,10 @@ abbrev Takes : List Statement → Overlay → Anchor → Type 0
 Takes m o place = (is_place m o place ≡ true) × (length (terms_at m o place) ≤ most_at_place)
 
 taken : (m : List Statement) (o : Overlay) (place : Anchor) → takes m o place ≡ true → Takes m o place
-taken m o place is = (both_left (is_place m o place) _ is, at_most _ most_at_place (both_right (is_place m o place) _ is))
+taken m o place is = (and_first (is_place m o place) _ is, leb-true _ most_at_place (and_second (is_place m o place) _ is))
 
 taking : (m : List Statement) (o : Overlay) (place : Anchor) → Takes m o place → takes m o place ≡ true
-taking m o place is = both (is_place m o place) _ is.0 (most_at _ most_at_place is.1)
-
-of_one : (P : Anchor → Type 0) (a place : Anchor) → P a → Contains (a ∷ []) place → P place
-of_one P a place holds there = elim (among_contained (a ∷ []) place there) [ inl is ↦ subst P is holds | inr none ↦ absurd none ]
-
-of_two : (P : Anchor → Type 0) (a b place : Anchor) → P a → P b → Contains (a ∷ b ∷ []) place → P place
-of_two P a b place first second there = elim (among_contained (a ∷ b ∷ []) place there) [
-  | inl is ↦ subst P is first
-  | inr (inl is) ↦ subst P is second
-  | inr (inr none) ↦ absurd none
-]
+taking m o place is = and_from (is_place m o place) _ is.0 (le-leb _ most_at_place is.1)
 
 -- ---- what an item finds
 
@@ -93,15 +77,15 @@ found m o (item.Cut id segment at is_open) is = record { bears = borne m o segme
 found m o (item.Clamp id segment at) is = record { bears = borne m o segment.number at.mm is; takes = λ place there. contains_nothing place there }
 found m o (item.Jumper id first second phases is_open) is = record {
   bears = tt;
-  takes = λ place there. of_two (Takes m o) first second place (taken m o first (both_left (takes m o first) _ is)) (taken m o second (both_right (takes m o first) _ is)) there;
+  takes = λ place there. each_among (Takes m o) (first ∷ second ∷ []) place (taken m o first (and_first (takes m o first) _ is), (taken m o second (and_second (takes m o first) _ is), tt)) (among_contained (first ∷ second ∷ []) place there);
 }
-found m o (item.Ground id at phases) is = record { bears = tt; takes = λ place there. of_one (Takes m o) at place (taken m o at is) there }
+found m o (item.Ground id at phases) is = record { bears = tt; takes = λ place there. each_among (Takes m o) (at ∷ []) place (taken m o at is, tt) (among_contained (at ∷ []) place there) }
 
 finding : (m : List Statement) (o : Overlay) (one : TempItem) → Finds m o one → finds m o one ≡ true
 finding m o (item.Cut id segment at is_open) is = bearing m o segment.number at.mm is.bears
 finding m o (item.Clamp id segment at) is = bearing m o segment.number at.mm is.bears
 finding m o (item.Jumper id first second phases is_open) is =
-    both (takes m o first) _ (taking m o first (is.takes first (contains_among (first ∷ second ∷ []) first (inl refl))))
+    and_from (takes m o first) _ (taking m o first (is.takes first (contains_among (first ∷ second ∷ []) first (inl refl))))
     (taking m o second (is.takes second (contains_among (first ∷ second ∷ []) second (inr (inl refl)))))
 finding m o (item.Ground id at phases) is = taking m o at (is.takes at (contains_among (at ∷ []) at (inl refl)))
 
@@ -115,21 +99,17 @@ unfolding IsDistinct
 sound (item.Cut id segment at is_open) is = (tt, tt)
 sound (item.Clamp id segment at) is = (tt, tt)
 sound (item.Jumper id first second phases is_open) is =
-    (((is_false (same_anchor first second) (both_left _ _ is), tt), (tt, tt)), is_false (has_no_phase phases) (both_right (not (same_anchor first second)) _ is))
-sound (item.Ground id at phases) is = ((tt, tt), is_false (has_no_phase phases) is)
+    (((not-true (same_anchor first second) (and_first _ _ is), tt), (tt, tt)), not-true (has_no_phase phases) (and_second (not (same_anchor first second)) _ is))
+sound (item.Ground id at phases) is = ((tt, tt), not-true (has_no_phase phases) is)
 
 sounding : (one : TempItem) → Sound one → is_sound one ≡ true
 unfolding IsDistinct
 sounding (item.Cut id segment at is_open) is = refl
 sounding (item.Clamp id segment at) is = refl
-sounding (item.Jumper id first second phases is_open) is = both _ _ (not_false (same_anchor first second) is.0.0.0) (not_false (has_no_phase phases) is.1)
-sounding (item.Ground id at phases) is = not_false (has_no_phase phases) is.1
+sounding (item.Jumper id first second phases is_open) is = and_from _ _ (not_from_false (same_anchor first second) is.0.0.0) (not_from_false (has_no_phase phases) is.1)
+sounding (item.Ground id at phases) is = not_from_false (has_no_phase phases) is.1
 
 -- ---- an item that stands
-
-some_follows : {X : Type 0} (P Q : X → Type 0) (found : Option X) → ((x : X) → P x → Q x) → IfSome found P → IfSome found Q
-some_follows P Q None follows is = tt
-some_follows P Q (Some x) follows is = follows x is
 
 some_always : {X : Type 0} (P : X → Type 0) (found : Option X) → ((x : X) → P x) → IfSome found P
 some_always P None each = tt
@@ -137,11 +117,11 @@ some_always P (Some x) each = each x
 
 pub stands : (m : List Statement) (o : Overlay) (one : TempItem) → is_borne m o one ≡ true → IfSome (item_segment_number one) (λ (x : ℕ). AreApart (marks_on m o x)) → ItemStands m o one
 stands m o one is apart =
-    let finds = found m o one (both_right (not (is_subject m (item_number one))) _ is) in record {
-      identifier = is_false (is_subject m (item_number one)) (both_left _ _ is);
-      segment = some_follows (λ (x : ℕ). Bears m o x (item_length one)) (λ (x : ℕ). IsTrue (is_of m is_segment x)) (item_segment_number one) (λ x bears. bears.segment) finds.bears;
-      lies = some_follows (λ (x : ℕ). Bears m o x (item_length one)) (λ (x : ℕ). LiesOn m x (item_length one)) (item_segment_number one) (λ x bears. bears.lies) finds.bears;
-      few = some_follows (λ (x : ℕ). Bears m o x (item_length one)) (λ (x : ℕ). length (marks_on m o x) ≤ most_marks) (item_segment_number one) (λ x bears. bears.few) finds.bears;
+    let finds = found m o one (and_second (not (is_subject m (item_number one))) _ is) in record {
+      identifier = not-true (is_subject m (item_number one)) (and_first _ _ is);
+      segment = IfSome_then (item_segment_number one) finds.bears (λ x bears. bears.segment);
+      lies = IfSome_then (item_segment_number one) finds.bears (λ x bears. bears.lies);
+      few = IfSome_then (item_segment_number one) finds.bears (λ x bears. bears.few);
       apart = apart;
       places = λ place there. (finds.takes place there).0;
       crowds = λ place there. (finds.takes place there).1;
@@ -154,29 +134,29 @@ bears_some m o one (Some x) segment lies few = record { segment = segment; lies 
 
 pub standing : (m : List Statement) (o : Overlay) (one : TempItem) → ItemStands m o one → is_borne m o one ≡ true
 standing m o one stands =
-    both _ _ (not_false (is_subject m (item_number one)) stands.identifier)
+    and_from _ _ (not_from_false (is_subject m (item_number one)) stands.identifier)
     (finding m o one (record { bears = bears_some m o one (item_segment_number one) stands.segment stands.lies stands.few; takes = λ place there. (stands.places place there, stands.crowds place there) }))
 
 pub item_stands : (m : List Statement) (o : Overlay) (one : TempItem) → IsDistinct nat_eq (map item_number o.items) → ((x : ℕ) → AreApart (marks_of m x)) → does_stand m o one ≡ true → ItemStands m o one
 item_stands m o one distinct model is =
-    stands m o one (both_left (is_borne m o one) _ is)
+    stands m o one (and_first (is_borne m o one) _ is)
     (there_passes (λ (x : ℕ). list_all (is_apart m o x) o.items) (λ (x : ℕ). AreApart (marks_on m o x)) (item_segment_number one)
-    (λ x all. apart_marks m o x distinct (model x) (each_passes (is_apart m o x) o.items all)) (both_right (is_borne m o one) _ is))
+    (λ x all. apart_marks m o x distinct (model x) (all_among (is_apart m o x) o.items all)) (and_second (is_borne m o one) _ is))
 
 pub item_passes : (m : List Statement) (o : Overlay) (one : TempItem) → ItemStands m o one → does_stand m o one ≡ true
 item_passes m o one is =
-    both (is_borne m o one) _ (standing m o one is)
-    (passes_there (λ (x : ℕ). list_all (is_apart m o x) o.items) (λ (x : ℕ). AreApart (marks_on m o x)) (item_segment_number one) (λ x apart. all_pass (is_apart m o x) o.items (apart_each m o x apart)) is.apart)
+    and_from (is_borne m o one) _ (standing m o one is)
+    (passes_there (λ (x : ℕ). list_all (is_apart m o x) o.items) (λ (x : ℕ). AreApart (marks_on m o x)) (item_segment_number one) (λ x apart. among_all (is_apart m o x) o.items (apart_each m o x apart)) is.apart)
 
 -- ---- an overlay that stands
 
 pub overlay_stands : (m : List Statement) (o : Overlay) → ((x : ℕ) → AreApart (marks_of m x)) → Passes m o → Stands m o
 overlay_stands m o model passes =
-    let distinct = distinct_items o.items (λ one there. same_number _ 1 (each_passes (is_alone o.items) o.items passes.alone one there)) in
-    let good = λ (one : TempItem) (there : Among o.items one). three (is_sound one) (is_borne m o one) (is_apart_at_home m o one) (each_passes (is_good m o) o.items passes.good one there) in
+    let distinct = distinct_items o.items (λ one there. eqb-true _ 1 (all_among (is_alone o.items) o.items passes.alone one there)) in
+    let good = λ (one : TempItem) (there : Among o.items one). and_three (is_sound one) (is_borne m o one) (is_apart_at_home m o one) (all_among (is_good m o) o.items passes.good one there) in
     let apart = λ (x : ℕ). apart_marks m o x distinct (model x) (λ one there. apart_anywhere m o x one (good one there).2) in record {
       items = λ one there. stands m o one (good one (among_contained o.items one there)).1 (some_always (λ (x : ℕ). AreApart (marks_on m o x)) (item_segment_number one) apart);
-      positions = λ position there. each_passes (is_of_switch m) o.positions passes.switches position (among_contained o.positions position there);
+      positions = λ position there. all_among (is_of_switch m) o.positions passes.switches position (among_contained o.positions position there);
       identifiers = distinct;
       switches = passes.ascend;
       jumpers = λ one there. (sound one (good one (among_contained o.items one there)).0).0;
@@ -187,12 +167,12 @@ overlay_stands m o model passes =
 pub overlay_passes : (m : List Statement) (o : Overlay) → Stands m o → Passes m o
 overlay_passes m o stands = record {
   few = stands.few;
-  alone = all_pass (is_alone o.items) o.items (λ one there. ap (λ (n : ℕ). n == 1) (alone_items o.items stands.identifiers one there));
-  switches = all_pass (is_of_switch m) o.positions (λ position there. stands.positions position (contains_among o.positions position there));
+  alone = among_all (is_alone o.items) o.items (λ one there. ap (λ (n : ℕ). n == 1) (alone_items o.items stands.identifiers one there));
+  switches = among_all (is_of_switch m) o.positions (λ position there. stands.positions position (contains_among o.positions position there));
   ascend = stands.switches;
-  good = all_pass (is_good m o) o.items (λ one there.
+  good = among_all (is_good m o) o.items (λ one there.
       let here = stands.items one (contains_among o.items one there) in
-      all_three (is_sound one) (is_borne m o one) (is_apart_at_home m o one) (sounding one (stands.jumpers one (contains_among o.items one there), stands.phased one (contains_among o.items one there)))
+      and_from_three (is_sound one) (is_borne m o one) (is_apart_at_home m o one) (sounding one (stands.jumpers one (contains_among o.items one there), stands.phased one (contains_among o.items one there)))
       (standing m o one here)
       (passes_there (λ (x : ℕ). is_apart m o x one) (λ (x : ℕ). AreApart (marks_on m o x)) (item_segment_number one) (λ x apart. apart_each m o x apart one there) here.apart));
 }

@@ -1,6 +1,7 @@
 -- Wirings that agree on points reach the same.
-use Rattle.std.proofs.Common.{◌≡◌, ℕ, List, [], ◌∷◌, IsTrue, subst}
-use Rattle.cim_model.specs.Reach.{IsPoint, IsPointReached, IsReached, IsStart, Leads, Linked, Wiring}
+use Rattle.std.proofs.Common.{◌≡◌, ℕ, IsTrue, subst}
+use Rattle.cim_model.proofs.WalkInduction.{reached_is_point, reaches_induction, reaches_start, reaches_step}
+use Rattle.cim_model.specs.Reach.{IsPoint, IsPointReached, IsReached, IsStart, Linked, Wiring}
 use Rattle.cim_words.specs.Phases.{has_phase}
 use Rattle.cim_words.specs.declared.phases.Phase.{Phase}
 use Rattle.cim_words.specs.declared.phases.PhaseSet.{PhaseSet}
@@ -23,20 +24,13 @@ start_too v w x asked a follows start = record { of_source = follows.starts x a 
 link_too : (v w : Wiring) (a b : Point) → Follows v w → Linked v a b → Linked w a b
 link_too v w a b follows link = record { from = point_too v w a follows link.from; to = point_too v w b follows link.to; joined = follows.joined a b link.from link.to link.joined }
 
-leads_too : (v w : Wiring) (a : Point) (steps : List Point) (b : Point) → Follows v w → Leads (Linked v) a steps b → Leads (Linked w) a steps b
-leads_too v w a [] b follows along = along
-leads_too v w a (c ∷ steps) b follows along = (link_too v w a c follows along.0, leads_too v w c steps b follows along.1)
-
 pub point_reached_too : (v w : Wiring) (x : ℕ) (asked : PhaseSet) (b : Point) → Follows v w → IsPointReached v x asked b → IsPointReached w x asked b
-point_reached_too v w x asked b follows reached = (reached.0, start_too v w x asked reached.0 follows reached.1, reached.2, leads_too v w reached.0 reached.2 b follows reached.3)
-
--- what is reached is a point
-end_point : (v : Wiring) (a : Point) (steps : List Point) (b : Point) → IsPoint v a → Leads (Linked v) a steps b → IsPoint v b
-end_point v a [] b point along = subst (IsPoint v) along point
-end_point v a (c ∷ steps) b point along = end_point v c steps b along.0.to along.1
+point_reached_too v w x asked b follows =
+    reaches_induction (Linked v) (IsStart v x asked) (IsPointReached w x asked) (λ a start. reaches_start (Linked w) (IsStart w x asked) a (start_too v w x asked a follows start))
+    (λ a c reached link. reaches_step (Linked w) (IsStart w x asked) a c reached (link_too v w a c follows link)) b
 
 pub reached_too : (v w : Wiring) (x : ℕ) (asked : PhaseSet) (y : ℕ) (p : Phase) → Follows v w → IsReached v x asked y p → IsReached w x asked y p
 reached_too v w x asked y p follows reached =
     let at : Point = record { term = reached.term; phase = p } in
-    let point = end_point v reached.reached.0 reached.reached.2 at reached.reached.1.point reached.reached.3 in
+    let point = reached_is_point v x asked at reached.reached in
     record { term = reached.term; counts = follows.counts at y point reached.counts; reached = point_reached_too v w x asked at follows reached.reached }

@@ -1,6 +1,7 @@
 -- Points are joined in the graph of a live network exactly where they are joined in the network.
-use Rattle.std.proofs.Common.{◌≡◌, ◌↔◌, ◌⊎◌, ℕ, inl, inr, List, map, Bool, true, false, cond, IsTrue, Option, Some, None, [], ◌∷◌, Contains, refl, ap, sym, ◌∙◌, subst}
+use Rattle.std.proofs.Common.{◌≡◌, ◌↔◌, ◌⊎◌, ℕ, inl, inr, List, map, Bool, true, false, cond, IsTrue, Option, Some, None, Contains, refl, ap, sym, ◌∙◌, subst}
 use Rattle.std.specs.List.{filter_map}
+use Rattle.link_rules.proofs.LineTerms.{spokes_at_terms}
 use Rattle.cim_model.specs.Links as network
 use Rattle.cim_model.specs.Links.{lets_through}
 use Rattle.cim_model.specs.Live.{Conduction, PassesAll, PassesAlong, PassesNothing, PassesSwitched, PassesTransformed, conduction, is_open, is_place, is_term, term_phases, terms_of}
@@ -17,7 +18,7 @@ use Rattle.graph_pages.specs.Walks as graph
 use Rattle.graph_pages.specs.declared.star.Pass.{Pass}
 use Rattle.graph_pages.specs.declared.star.Spoke.{Spoke}
 use Rattle.graph_pages.specs.declared.star.Star.{Star}
-use Rattle.link_rules.specs.Inputs.{IsPassBy, IsStar, inputs, spoke}
+use Rattle.link_rules.specs.Inputs.{IsPassBy, IsStar, inputs}
 use Rattle.link_rules.specs.Map.{AreMembers, IsEntry}
 use Rattle.room_words.specs.declared.anchor.Anchor.{Anchor}
 use Rattle.room_words.specs.declared.overlay.Overlay.{Overlay}
@@ -121,12 +122,8 @@ by_through m o a b (inr (inl ((same, is), passes))) = (same, subst (λ (how : Co
 by_through m o a b (inr (inr ((same, is), apart, passes))) = (same, subst (λ (how : Conduction). PassesBy how (is_open m o a.term.owner.number) a b) (sym is) (apart, passes))
 
 -- a star lists just the terminals of its owner
-terms_same : (m : List Statement) (o : Overlay) (terms : List Term) → map (λ (s : Spoke). s.term) (map (spoke m o) terms) ≡ terms
-terms_same m o [] = refl
-terms_same m o (t ∷ terms) = ap (λ (rest : List Term). t ∷ rest) (terms_same m o terms)
-
 pub star_terms : (m : List Statement) (o : Overlay) (x : ℕ) (star : Star) → IsStar x (inputs m o x) star → map (λ (s : Spoke). s.term) star.spokes ≡ terms_of m o x
-star_terms m o x star is = ap (map (λ (s : Spoke). s.term)) is.spokes ∙ terms_same m o (terms_of m o x)
+star_terms m o x star is = ap (map (λ (s : Spoke). s.term)) is.spokes ∙ spokes_at_terms m o (terms_of m o x)
 
 pub star_lists : (m : List Statement) (o : Overlay) (g : GraphView) (x : ℕ) (star : Star) (t : Term) → IsGraphOf m o g → IsStar x (inputs m o x) star → graph.HasSpoke star t ↔ ((is_term m o t ≡ true) × (t.owner.number ≡ x))
 star_lists m o g x star t of_network is = subst (λ (terms : List Term). Contains terms t ↔ ((is_term m o t ≡ true) × (t.owner.number ≡ x))) (sym (star_terms m o x star is)) (of_network.terminals x t)

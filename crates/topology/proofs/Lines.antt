@@ -1,7 +1,8 @@
 -- The lines of the segments of a live network in its graph, and the phases that terminals have.
-use Rattle.std.proofs.Common.{◌≡◌, ◌⊎◌, ℕ, inl, inr, List, [], ◌∷◌, map, Bool, true, false, cond, Option, Some, None, option_map, unwrap_or, refl, ap, sym, ◌∙◌, subst}
+use Rattle.std.proofs.Common.{◌≡◌, ◌⊎◌, ℕ, inl, inr, List, map, Bool, true, false, cond, Option, Some, None, option_map, unwrap_or, refl, ap, sym, ◌∙◌, subst}
 use Rattle.std.specs.List.{filter_map}
-use Rattle.std.proofs.lemmas.Option.{same_Some}
+use Rattle.std.proofs.lemmas.Option.{none-some, same_Some}
+use Rattle.link_rules.proofs.LineTerms.{marks_of_mark_terms}
 use Rattle.cim_model.specs.Live.{Conduction, PassesAll, PassesAlong, PassesNothing, PassesSwitched, PassesTransformed, conduction, is_term, item_segment_number, side_phases, stands_on, stated_phases, term_phases}
 use Rattle.cim_model.specs.Marks.{marks_on}
 use Rattle.cim_model.specs.Network.{segment_of, segment_phases}
@@ -17,7 +18,7 @@ use Rattle.graph_pages.specs.Walks.{Line, line_at, line_in, line_of, line_on, ow
 use Rattle.graph_pages.specs.declared.star.Pass.{Pass}
 use Rattle.graph_pages.specs.declared.star.SpokePhases.TheVariants as phases
 use Rattle.graph_pages.specs.declared.star.Star.{Star}
-use Rattle.link_rules.specs.Inputs.{IsPassBy, IsStar, MarkTerms, inputs, listed_phases, side_listed, spoke, spot_term, with_terms}
+use Rattle.link_rules.specs.Inputs.{IsPassBy, IsStar, inputs, listed_phases, side_listed, spoke, spot_term}
 use Rattle.room_words.specs.Overlay.{item_of}
 use Rattle.room_words.specs.declared.items.TempItem.{TempItem}
 use Rattle.room_words.specs.declared.items.TempItem.TheVariants as item
@@ -40,10 +41,6 @@ pub record IsLineOf (m : List Statement) (o : Overlay) (x : ℕ) (found : Line) 
 
 -- ---- the line of a star
 
-marks_same : (m : List Statement) (o : Overlay) (marks : List Mark) → map (λ (one : MarkTerms). one.0) (map (with_terms m o) marks) ≡ marks
-marks_same m o [] = refl
-marks_same m o (mark ∷ marks) = ap (λ (rest : List Mark). mark ∷ rest) (marks_same m o marks)
-
 -- a star that conducts along a line has that of its segment, and no other star has one
 line_passed : (m : List Statement) (o : Overlay) (g : GraphView) (x : ℕ) (pass : Pass) (how : Conduction) → IsGraphOf m o g → conduction m o x ≡ how → IsPassBy how (inputs m o x) pass
     → (how ≡ PassesAlong × ((found : Line) × (line_in pass ≡ Some found) × IsLineOf m o x found)) ⊎ (line_in pass ≡ None)
@@ -52,7 +49,7 @@ line_passed m o g x pass PassesSwitched of_network is by = inr (ap line_in by)
 line_passed m o g x pass PassesAll of_network is by = inr (ap line_in by)
 line_passed m o g x pass PassesTransformed of_network is by = inr (ap line_in by)
 line_passed m o g x pass PassesAlong of_network is (sections, are, by) =
-    let own = subst (λ (marks : List Mark). AreSections marks sections) (marks_same m o (marks_on m o x)) are in
+    let own = subst (λ (marks : List Mark). AreSections marks sections) (marks_of_mark_terms m o (marks_on m o x)) are in
     inl (
       refl,
       (
@@ -66,14 +63,11 @@ pub star_line : (m : List Statement) (o : Overlay) (g : GraphView) (x : ℕ) (st
     → ((conduction m o x ≡ PassesAlong) × ((found : Line) × (line_in star.pass ≡ Some found) × IsLineOf m o x found)) ⊎ (line_in star.pass ≡ None)
 star_line m o g x star of_network is = line_passed m o g x star.pass (conduction m o x) of_network refl is.pass
 
-none_some : {X : Type 0} (x : X) → ◌≡◌ {A = Option X} None (Some x) → ⊥
-none_some x is = cc
-
 -- where a star has a line it is that of its segment
 pub line_is : (m : List Statement) (o : Overlay) (g : GraphView) (x : ℕ) (star : Star) (found : Line) → IsGraphOf m o g → IsStar x (inputs m o x) star → line_in star.pass ≡ Some found → IsLineOf m o x found
 line_is m o g x star found of_network is has = elim (star_line m o g x star of_network is) [
   | inl along ↦ subst (IsLineOf m o x) (same_Some along.1.0 found (sym along.1.1 ∙ has)) along.1.2
-  | inr none ↦ absurd (none_some found (sym none ∙ has))
+  | inr none ↦ absurd (none-some found (sym none ∙ has))
 ]
 
 -- a segment has its line
@@ -82,7 +76,7 @@ not_along m o x pass PassesNothing is by none = cc
 not_along m o x pass PassesSwitched is by none = cc
 not_along m o x pass PassesAll is by none = cc
 not_along m o x pass PassesTransformed is by none = cc
-not_along m o x pass PassesAlong is (sections, are, by) none = none_some _ (sym none ∙ ap line_in by)
+not_along m o x pass PassesAlong is (sections, are, by) none = none-some _ (sym none ∙ ap line_in by)
 
 pub own_line : (m : List Statement) (o : Overlay) (g : GraphView) (x : ℕ) (star : Star) → IsGraphOf m o g → IsStar x (inputs m o x) star → conduction m o x ≡ PassesAlong
     → (found : Line) × (line_in star.pass ≡ Some found) × IsLineOf m o x found
@@ -105,7 +99,7 @@ IsAlong m o x y = (y ≡ x) ⊎ (stands_on m o y ≡ Some x)
 
 no_own_line : (m : List Statement) (o : Overlay) (g : GraphView) (x y : ℕ) (star : Star) → IsGraphOf m o g → IsStar y (inputs m o y) star → stands_on m o y ≡ Some x → line_in star.pass ≡ None
 no_own_line m o g x y star of_network is on = elim (star_line m o g y star of_network is) [
-  | inl along ↦ absurd (none_some x (sym (of_network.lines y along.0).1 ∙ on))
+  | inl along ↦ absurd (none-some x (sym (of_network.lines y along.0).1 ∙ on))
   | inr none ↦ none
 ]
 

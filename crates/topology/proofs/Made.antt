@@ -1,14 +1,18 @@
 -- A graph of the stars of all owners and of the members of all places is the graph of the live network.
-use Rattle.std.proofs.Common.{◌≡◌, ℕ, ◌+◌, ◌<◌, inl, inr, List, [], ◌∷◌, ◌++◌, length, take, get_or, map, Bool, true, false, ◌==◌, nat_eq, cond, Option, Some, None, find, Result, Ok, Err, IfOk, refl, ap, sym, ◌∙◌, subst}
-use Rattle.std.specs.List.{AllByRecursion, IsDistinct}
+use Rattle.std.proofs.Common.{◌≡◌, ℕ, ◌+◌, ◌<◌, inl, inr, List, [], ◌∷◌, ◌++◌, length, take, get_or, map, Bool, true, false, ◌==◌, nat_eq, cond, Option, Some, None, Result, Ok, Err, IfOk, refl, ap, sym, ◌∙◌, subst}
+use Rattle.std.specs.List.{IsDistinct}
 use Rattle.std.specs.Map.{keys_of, lookup}
 use Rattle.std.proofs.lemmas.List.{map-append, take_more}
 use Rattle.std.proofs.lemmas.Option.{same_Some}
 use Rattle.std.proofs.lemmas.Simd.{map-map}
+use Rattle.std.proofs.lemmas.Bool.{eqb-true, false_from_ne_true}
+use Rattle.plain_laws.proofs.Each.{each_among, each_push}
+use Rattle.plain_laws.proofs.Members.{Among, map_among}
+use Rattle.plain_laws.proofs.Numbers.{equal_itself}
+use Rattle.plain_laws.proofs.Options.{among_find, cond_none, find_among}
+use Rattle.plain_laws.proofs.Truth.{never_both}
 use Rattle.cim_model.specs.Live.{is_live, is_place}
 use Rattle.cim_model.specs.Values.{as_id, number_of_id}
-use Rattle.cim_model.proofs.ListMembers.{Among, find_among, map_among}
-use Rattle.cim_model.proofs.Runs.{not_true, number_itself, same_number}
 use Rattle.cim_words.specs.declared.identifier.Id.{Id}
 use Rattle.cim_words.specs.declared.statement.Statement.{Statement}
 use Rattle.graph_pages.specs.Graph.{GraphView, members_in, members_of, star_in, star_of}
@@ -30,10 +34,6 @@ key_of place = place.0
 
 -- ---- one more entry
 
-all_more : {X : Type 0} (P : X → Type 0) (xs : List X) (x : X) → AllByRecursion P xs → P x → AllByRecursion P (xs ++ x ∷ [])
-all_more P [] x all one = (one, tt)
-all_more P (first ∷ xs) x all one = (all.0, all_more P xs x all.1 one)
-
 keys_more : {X K : Type 0} (key : X → K) (ks : List K) (i : ℕ) (d : K) (xs : List X) (x : X) → i < length ks → map key xs ≡ take i ks → key x ≡ get_or ks i d → map key (xs ++ x ∷ []) ≡ take (i + 1) ks
 keys_more key ks i d xs x within so_far is =
     map-append key xs (x ∷ []) ∙ ap (λ (front : List _). front ++ key x ∷ []) so_far ∙ ap (λ (k : _). take i ks ++ k ∷ []) is ∙ sym (take_more ks i d within)
@@ -44,7 +44,7 @@ star_more m o ids i d found star stars within at is so_far =
     let there : IsStarAt m o (get_or ids i d).number (Some star) = subst (IsStarAt m o (get_or ids i d).number) is at in
     record {
       keys = keys_more id_of ids i d stars star within so_far.keys there.1.id;
-      entries = all_more (λ (star : Star). IsStarAt m o star.id.number (Some star)) stars star so_far.entries (subst (λ (id : Id). IsStarAt m o id.number (Some star)) (sym there.1.id) there);
+      entries = each_push (λ (star : Star). IsStarAt m o star.id.number (Some star)) stars star so_far.entries (subst (λ (id : Id). IsStarAt m o id.number (Some star)) (sym there.1.id) there);
     }
 
 pub some_star : (m : List Statement) (o : Overlay) (x : ℕ) (found : Option Star) → IsStarAt m o x found → found ≡ None → is_live m o x ≡ true → ⊥
@@ -59,7 +59,7 @@ members_more m o ps i d found members held within entry is so_far =
     let there : IsEntry m o (get_or ps i d) (Some members) = subst (IsEntry m o (get_or ps i d)) is entry in
     record {
       keys = keys_more key_of ps i d held (get_or ps i d, members) within so_far.keys refl;
-      entries = all_more (λ (place : Anchor × List Term). IsEntry m o place.0 (Some place.1)) held (get_or ps i d, members) so_far.entries there;
+      entries = each_push (λ (place : Anchor × List Term). IsEntry m o place.0 (Some place.1)) held (get_or ps i d, members) so_far.entries there;
     }
 
 pub some_members : (m : List Statement) (o : Overlay) (place : Anchor) (found : Option (List Term)) → IsEntry m o place found → found ≡ None → is_place m o place ≡ true → ⊥
@@ -79,27 +79,13 @@ distinct_held m o held known holds = subst (IsDistinct same_anchor) (sym holds.k
 
 -- ---- looked up, they are the entries of the graph
 
-all_among : {X : Type 0} (P : X → Type 0) (xs : List X) (x : X) → AllByRecursion P xs → Among xs x → P x
-all_among P [] x all there = absurd there
-all_among P (y ∷ xs) x all (inl is) = subst P is all.0
-all_among P (y ∷ xs) x all (inr there) = all_among P xs x all.1 there
-
-none_step : {X : Type 0} (y : X) (rest : Option X) (b : Bool) → (b ≡ false → rest ≡ None → ⊥) → cond b (Some y) rest ≡ None → ⊥
-none_step y rest true later none = cc
-none_step y rest false later none = later refl none
-
-none_found : {X : Type 0} (p : X → Bool) (xs : List X) (x : X) → Among xs x → p x ≡ true → find p xs ≡ None → ⊥
-none_found p [] x there passes none = there
-none_found p (y ∷ xs) x (inl is) passes none = none_step y (find p xs) (p y) (λ fails rest. let both : true ≡ false = sym (ap p is ∙ passes) ∙ fails in cc) none
-none_found p (y ∷ xs) x (inr there) passes none = none_step y (find p xs) (p y) (λ fails rest. none_found p xs x there passes rest) none
-
 star_at : (m : List Statement) (o : Overlay) (stars : List Star) (x : ℕ) (found : Option Star) → IsKnown m o → HoldsStars m o (owners m o) stars → star_in stars x ≡ found → IsStarAt m o x found
 star_at m o stars x (Some star) known holds is =
     let there = find_among (λ (star : Star). star.id.number == x) stars star is in
-    subst (λ (x : ℕ). IsStarAt m o x (Some star)) (same_number star.id.number x there.1) (all_among (λ (star : Star). IsStarAt m o star.id.number (Some star)) stars star holds.entries there.0)
-star_at m o stars x None known holds is = not_true (is_live m o x) (λ live.
+    subst (λ (x : ℕ). IsStarAt m o x (Some star)) (eqb-true star.id.number x there.1) (each_among (λ (star : Star). IsStarAt m o star.id.number (Some star)) stars star holds.entries there.0)
+star_at m o stars x None known holds is = false_from_ne_true (is_live m o x) (λ live.
     let star = map_among id_of stars (as_id x) (subst (λ (ids : List Id). Among ids (as_id x)) (sym holds.keys) (live_owner m o x known live)) in
-    none_found (λ (star : Star). star.id.number == x) stars star.0 star.1 (ap (λ (id : Id). id.number == x) star.2 ∙ number_itself x) is)
+    among_find (λ (star : Star). star.id.number == x) stars star.0 star.1 (ap (λ (id : Id). id.number == x) star.2 ∙ equal_itself x) is)
 
 -- a look-up finds an entry whose key passes
 lookup_step : (p : Anchor → Bool) (one : Anchor × List Term) (held : List (Anchor × List Term)) (members : List Term) (b : Bool) → p one.0 ≡ b
@@ -114,16 +100,15 @@ lookup_among p (one ∷ held) members is = lookup_step p one held members (p one
 
 none_looked_up : (p : Anchor → Bool) (held : List (Anchor × List Term)) (one : Anchor × List Term) → Among held one → p one.0 ≡ true → lookup p held ≡ None → ⊥
 none_looked_up p [] one there passes none = there
-none_looked_up p (first ∷ held) one (inl is) passes none =
-    none_step first.1 (lookup p held) (p first.0) (λ fails rest. let both : true ≡ false = sym (ap (λ (one : Anchor × List Term). p one.0) is ∙ passes) ∙ fails in cc) none
-none_looked_up p (first ∷ held) one (inr there) passes none = none_step first.1 (lookup p held) (p first.0) (λ fails rest. none_looked_up p held one there passes rest) none
+none_looked_up p (first ∷ held) one (inl is) passes none = never_both (p first.0) (ap (λ (one : Anchor × List Term). p one.0) is ∙ passes) (cond_none (p first.0) first.1 (lookup p held) none).0
+none_looked_up p (first ∷ held) one (inr there) passes none = none_looked_up p held one there passes (cond_none (p first.0) first.1 (lookup p held) none).1
 
 entry_at : (m : List Statement) (o : Overlay) (held : List (Anchor × List Term)) (place : Anchor) (found : Option (List Term)) → IsKnown m o → HoldsMembers m o (places m o) held → members_in held place ≡ found → IsEntry m o place found
 entry_at m o held place (Some members) known holds is =
     let there = lookup_among (same_anchor place) held members is in
     subst (λ (place : Anchor). IsEntry m o place (Some members)) (sym ((known.equal place there.0).0 there.2))
-    (all_among (λ (place : Anchor × List Term). IsEntry m o place.0 (Some place.1)) held (there.0, members) holds.entries there.1)
-entry_at m o held place None known holds is = not_true (is_place m o place) (λ yes.
+    (each_among (λ (place : Anchor × List Term). IsEntry m o place.0 (Some place.1)) held (there.0, members) holds.entries there.1)
+entry_at m o held place None known holds is = false_from_ne_true (is_place m o place) (λ yes.
     let one = map_among key_of held place (subst (λ (ps : List Anchor). Among ps place) (sym holds.keys) (is_listed m o place known yes)) in
     none_looked_up (same_anchor place) held one.0 one.1 ((known.equal place one.0.0).1 (sym one.2)) is)
 

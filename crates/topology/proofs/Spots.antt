@@ -2,11 +2,11 @@
 use Rattle.std.proofs.Common.{◌≡◌, ℕ, inl, inr, List, [], ◌∷◌, map, true, false, Some, Contains, refl, sym, subst}
 use Rattle.std.specs.List.{filter_map}
 use Rattle.std.proofs.lemmas.Option.{same_Some}
+use Rattle.cim_model.proofs.SaidLemmas.{first_among}
+use Rattle.plain_laws.proofs.Members.{Among, among_contained, among_filter_map, among_flat_map, among_map, contains_among, filter_map_among, map_among}
 use Rattle.cim_model.specs.Live.{is_term, terms_of}
 use Rattle.cim_model.specs.Marks.{marks_on}
-use Rattle.cim_model.specs.Network.{first}
 use Rattle.cim_model.specs.Sections.{StandsAtSpot, of_side, second, spot_owner, term_at}
-use Rattle.cim_model.proofs.ListMembers.{Among, among_contained, among_filter_map, among_left, among_map, among_right, contains_among, filter_map_among, map_among}
 use Rattle.cim_words.specs.declared.statement.Statement.{Statement}
 use Rattle.graph_pages.specs.Graph.{GraphView}
 use Rattle.graph_pages.specs.Walks.{Line}
@@ -19,10 +19,6 @@ use Rattle.topology.proofs.Entries.{IsGraphOf}
 use Rattle.topology.proofs.Lines.{IsAlong, IsLineOf}
 
 -- ---- the terminal at a spot is one of the spot's owner, which is along the segment
-
-first_among : {X : Type 0} (xs : List X) (x : X) → first xs ≡ Some x → Among xs x
-first_among [] x is = absurd cc
-first_among (y ∷ xs) x is = inl (same_Some y x is)
 
 second_among : {X : Type 0} (xs : List X) (x : X) → second xs ≡ Some x → Among xs x
 second_among [] x is = absurd cc
@@ -67,15 +63,10 @@ spots_of m o x found section here there =
 pub term_listed : (m : List Statement) (o : Overlay) (x : ℕ) (t : Term) (s : Spot) (spots : List Spot) → Contains spots s → StandsAtSpot m o x t s → Contains (filter_map (term_at m o x) spots) t
 term_listed m o x t s spots there stands = contains_among _ t (among_filter_map (term_at m o x) spots s t (among_contained spots s there) stands.terminal)
 
-in_all : (sections : List (List Spot)) (spots : List Spot) (s : Spot) → Among sections spots → Among spots s → Among (all_spots sections) s
-in_all [] spots s there has = absurd there
-in_all (one ∷ sections) spots s (inl is) has = among_left one (all_spots sections) s (subst (λ (spots : List Spot). Among spots s) (sym is) has)
-in_all (one ∷ sections) spots s (inr there) has = among_right one (all_spots sections) s (in_all sections spots s there has)
-
 -- a terminal that a section lists stands at one of its spots
 pub spot_of : (m : List Statement) (o : Overlay) (x : ℕ) (t : Term) (found : Line) (here : IsLineOf m o x found) (spots : List Spot) → Contains here.sections spots
     → Contains (filter_map (term_at m o x) spots) t → (s : Spot) × Contains spots s × StandsAtSpot m o x t s
 spot_of m o x t found here spots there listed =
     let from = filter_map_among (term_at m o x) spots t (among_contained _ t listed) in
-    let has = in_all here.sections spots from.0 (among_contained here.sections spots there) from.1 in
+    let has = among_flat_map (λ (spots : List Spot). spots) here.sections spots from.0 (among_contained here.sections spots there) from.1 in
     (from.0, contains_among spots from.0 from.1, record { on = (here.are.complete from.0).0 (contains_among (all_spots here.sections) from.0 has); terminal = from.2 })

@@ -33,26 +33,17 @@ loop-reader-preserved g c =
     let same : c.in-Some.reader.origin ≡ c.args.writer.origin = (sym c.leave.ensures.seen.1 ∙ c.absorb.ensures.origin) ∙ ap (λ w. w.origin) i.2 in
     (c.in-Some.reader ∷ i.0, moved c.args.readers.items c.loop-reader.readers.items c.pop.new.self.items i.0 c.in-Some.reader i.1 last, c.absorb.ensures.same ∙ i.2, All-cons P c.in-Some.reader i.0 (seen, same) i.3)
 
-pub returns-clause-last : goal.returns-clause-last
-returns-clause-last g c = c.into_last.ensures.last ∙ ap (λ w. w.last) c.loop-reader.invariant.2
-
-pub returns-clause-seen : goal.returns-clause-seen
-returns-clause-seen g c =
+pub returns : goal.returns
+returns g c =
     let State : Type 0 = ReaderState g.row.V.Denot g.row.V-Item.Denot g.row.V-Origin.Denot in
     let i = c.loop-reader.invariant in
     let P : State → Type 0 = λ r. IsPrefix r.seen (g.V.Dated.log c.args.writer.last) × (r.origin ≡ c.args.writer.origin) in
     let none : c.loop-reader.readers.items ≡ [] = search rules in
     let all : c.args.readers.items ≡ i.0 = i.1 ∙ ap (λ (xs : List State). xs ++ i.0) none in
-    let last_is : c.into_last.result ≡ c.args.writer.last = c.into_last.ensures.last ∙ ap (λ w. w.last) i.2 in
-    subst (λ xs. All (λ (r : State). IsPrefix r.seen (g.V.Dated.log c.into_last.result)) xs) (sym all) (subst (λ v. All (λ (r : State). IsPrefix r.seen (g.V.Dated.log v)) i.0) (sym last_is)
-    (All-weaker P (λ (r : State). IsPrefix r.seen (g.V.Dated.log c.args.writer.last)) (λ r t. t.0) i.0 i.3))
-
-pub returns-clause-origin : goal.returns-clause-origin
-returns-clause-origin g c =
-    let State : Type 0 = ReaderState g.row.V.Denot g.row.V-Item.Denot g.row.V-Origin.Denot in
-    let i = c.loop-reader.invariant in
-    let P : State → Type 0 = λ r. IsPrefix r.seen (g.V.Dated.log c.args.writer.last) × (r.origin ≡ c.args.writer.origin) in
-    let none : c.loop-reader.readers.items ≡ [] = search rules in
-    let all : c.args.readers.items ≡ i.0 = i.1 ∙ ap (λ (xs : List State). xs ++ i.0) none in
-    let last_is : c.into_last.result ≡ c.args.writer.last = c.into_last.ensures.last ∙ ap (λ w. w.last) i.2 in
-    subst (λ xs. All (λ (r : State). r.origin ≡ c.args.writer.origin) xs) (sym all) (All-weaker P (λ (r : State). r.origin ≡ c.args.writer.origin) (λ r t. t.1) i.0 i.3)
+    let last_is : c.into_last.result ≡ c.args.writer.last = c.into_last.ensures.last ∙ ap (λ w. w.last) i.2 in record {
+      last = last_is;
+      began = search rules;
+      seen = subst (λ xs. All (λ (r : State). IsPrefix r.seen (g.V.Dated.log c.into_last.result)) xs) (sym all) (subst (λ v. All (λ (r : State). IsPrefix r.seen (g.V.Dated.log v)) i.0) (sym last_is)
+          (All-weaker P (λ (r : State). IsPrefix r.seen (g.V.Dated.log c.args.writer.last)) (λ r t. t.0) i.0 i.3));
+      origin = subst (λ xs. All (λ (r : State). r.origin ≡ c.args.writer.origin) xs) (sym all) (All-weaker P (λ (r : State). r.origin ≡ c.args.writer.origin) (λ r t. t.1) i.0 i.3);
+    }

@@ -1,5 +1,4 @@
-use Rattle.cim_model.proofs.Marks.{on_segment, segment_on_none}
-use Rattle.cim_model.proofs.Standing.{mark_stands}
+use Rattle.cim_model.proofs.Marks.{on_segment, segment_on_none, mark_stands}
 use Rattle.cim_model.proofs.laws.marks_stand_on_segments.Goals as goal
 
 pub returns-clause-marks : goal.returns-clause-marks

@@ -1,7 +1,7 @@
+use Rattle.plain_laws.proofs.Members.{among_contained, contains_among}
 use Rattle.cim_model.specs.Live.{terms_at}
-use Rattle.cim_model.proofs.ListMembers.{among_contained, contains_among}
-use Rattle.cim_model.proofs.LivePlaces.{listed_placed, placed_listed}
 use Rattle.cim_model.proofs.OverlayItems.{IsLive}
+use Rattle.cim_model.proofs.LiveTerms.{listed_placed, placed_listed}
 use Rattle.cim_model.proofs.live_laws.terminals_stand_where_listed.Goals as goal
 
 pub returns : goal.returns

@@ -1,6 +1,6 @@
 use Rattle.std.proofs.Common.{arith}
 use Rattle.std.specs.List.{IsDistinct}
-use Rattle.cim_model.proofs.ContainsCases.{contains_nothing}
+use Rattle.plain_laws.proofs.Members.{contains_nothing}
 use Rattle.cim_model.proofs.live_laws.the_empty_overlay_stands.Goals as goal
 
 pub returns : goal.returns

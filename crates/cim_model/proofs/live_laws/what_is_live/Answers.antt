@@ -1,9 +1,8 @@
 use Rattle.std.proofs.Common.{ℕ, subst}
+use Rattle.plain_laws.proofs.Members.{Among, among_contained, contains_among}
 use Rattle.cim_model.specs.Live.{terms_of}
-use Rattle.cim_model.proofs.ListMembers.{Among, among_contained, contains_among}
 use Rattle.cim_model.proofs.LiveMarks.{line_live, mark_stands, on_line}
-use Rattle.cim_model.proofs.LivePlaces.{stands_at_place}
-use Rattle.cim_model.proofs.LiveTerms.{listed_owner, listed_term, owner_live, term_listed}
+use Rattle.cim_model.proofs.LiveTerms.{listed_owner, listed_term, owner_live, term_listed, stands_at_place}
 use Rattle.cim_model.proofs.live_laws.what_is_live.Goals as goal
 
 pub returns-clause-owners : goal.returns-clause-owners

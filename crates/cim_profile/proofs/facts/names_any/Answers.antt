@@ -4,7 +4,7 @@ use Rattle.std.proofs.lemmas.Iterator.Search.{any_from_yields_List}
 use Rattle.cim_words.specs.declared.class.Class.{Class}
 use Rattle.cim_profile.specs.Facts as spec
 use Rattle.cim_profile.specs.declared.table.Row.{Row}
-use Rattle.cim_profile.proofs.Lists.{any_present}
+use Rattle.cim_profile.proofs.RowValues.{any_present}
 use Rattle.cim_profile.proofs.facts.names_any.Goals as goal
 
 pub returns : goal.returns

@@ -3,7 +3,7 @@ use Rattle.std.proofs.lemmas.Iterator.{items_from_collect, YieldsList-from_slice
 use Rattle.std.proofs.lemmas.Iterator.Consumers.{YieldsList-from_filter_map}
 use Rattle.std.proofs.lemmas.Result.{IfOk-weaker}
 use Rattle.cim_profile.specs.declared.table.Row.{Row}
-use Rattle.cim_profile.proofs.Lists.{filter_map_present}
+use Rattle.cim_profile.proofs.RowValues.{filter_map_present}
 use Rattle.cim_profile.proofs.facts.present.Goals as goal
 
 pub returns : goal.returns

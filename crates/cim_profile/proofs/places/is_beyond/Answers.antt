@@ -3,12 +3,12 @@ use Rattle.std.specs.Prelude.{nat_lt}
 use Rattle.std.specs.List.{list_any}
 use Rattle.std.proofs.lemmas.Iterator.{YieldsList-from_slice}
 use Rattle.std.proofs.lemmas.Iterator.Search.{any_from_yields_List}
+use Rattle.plain_laws.proofs.Tests.{any_map}
 use Rattle.cim_words.specs.declared.length.Length.{Length}
 use Rattle.cim_model.specs.Values.{mm_of}
-use Rattle.cim_profile.proofs.Lists.{any_read}
 use Rattle.cim_profile.proofs.places.is_beyond.Goals as goal
 
 pub returns : goal.returns
 returns c =
     any_from_yields_List (λ (one : Length). list_any (λ limit. nat_lt limit one.mm) (map mm_of c.args.limits.now)) _ _ _ c.any.ensures.ran (YieldsList-from_slice c.args.lengths.now cc) (λ x b q k. search rules)
-    ∙ sym (any_read (λ (n : ℕ). list_any (λ limit. nat_lt limit n) (map mm_of c.args.limits.now)) mm_of c.args.lengths.now)
+    ∙ sym (any_map (λ (n : ℕ). list_any (λ limit. nat_lt limit n) (map mm_of c.args.limits.now)) mm_of c.args.lengths.now)

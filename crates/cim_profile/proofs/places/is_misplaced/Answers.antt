@@ -1,7 +1,8 @@
 use Rattle.std.proofs.Common.{map, refl, ◌∙◌, sym}
+use Rattle.plain_laws.proofs.Tests.{any_here, none_more, none_whole}
 use Rattle.cim_model.specs.Values.{mm_of}
-use Rattle.statement_set.proofs.Steps.{step_more, step_none}
-use Rattle.cim_profile.proofs.RuleLemmas.{any_here, any_nowhere, any_past, misplaced_is}
+use Rattle.statement_set.proofs.Steps.{yields_step, yields_end}
+use Rattle.cim_profile.proofs.RuleLemmas.{misplaced_is}
 use Rattle.cim_profile.proofs.places.is_misplaced.Goals as goal
 
 pub loop-statement-init : goal.loop-statement-init
@@ -9,16 +10,16 @@ loop-statement-init c = (0, cc, refl)
 
 pub returns-then-branch : goal.returns-then-branch
 returns-then-branch c =
-    let step = step_more c.args.subject.now.statements c.loop-statement.invariant.0 c.loop-statement.statement-iterator c.next.new.self c.next.result c.in-Some.statement c.loop-statement.invariant.1 c.in-Some.is c.next.ensures.steps in
+    let step = yields_step c.args.subject.now.statements c.loop-statement.invariant.0 c.loop-statement.statement-iterator c.next.new.self c.next.result c.in-Some.statement c.loop-statement.invariant.1 c.in-Some.is c.next.ensures.steps in
     sym (any_here _ _ c.loop-statement.invariant.0 c.in-Some.statement.now step.within step.is (rw (← c.deref.ensures.value) (sym c.in_ok-is_wrong.ensures ∙ c.if-branch.true)))
     ∙ misplaced_is c.args.facts.now.statements.now c.args.kind c.args.subject.now.id.number _ (map mm_of c.in_ok-lengths.lengths.items) c.requires.subject.statements c.in_ok-lengths.ensures (rw (← c.class.ensures) (sym (c.is_of.ensures _ c.requires.subject) ∙ c.if-not-is_of.false))
 
 pub loop-statement-preserved : goal.loop-statement-preserved
 loop-statement-preserved c =
-    let step = step_more c.args.subject.now.statements c.loop-statement.invariant.0 c.loop-statement.statement-iterator c.next.new.self c.next.result c.in-Some.statement c.loop-statement.invariant.1 c.in-Some.is c.next.ensures.steps in
-    (_, step.left, any_past _ _ c.loop-statement.invariant.0 c.in-Some.statement.now step.within step.is (rw (← c.deref.ensures.value) (sym c.in_ok-is_wrong.ensures ∙ c.if-branch.false)) c.loop-statement.invariant.2)
+    let step = yields_step c.args.subject.now.statements c.loop-statement.invariant.0 c.loop-statement.statement-iterator c.next.new.self c.next.result c.in-Some.statement c.loop-statement.invariant.1 c.in-Some.is c.next.ensures.steps in
+    (_, step.left, none_more _ _ c.loop-statement.invariant.0 c.in-Some.statement.now step.within step.is (rw (← c.deref.ensures.value) (sym c.in_ok-is_wrong.ensures ∙ c.if-branch.false)) c.loop-statement.invariant.2)
 
 pub returns : goal.returns
 returns c =
-    sym (any_nowhere _ _ c.loop-statement.invariant.0 (step_none c.args.subject.now.statements c.loop-statement.invariant.0 c.loop-statement.statement-iterator c.next.new.self c.next.result c.loop-statement.invariant.1 c.in-None.is c.next.ensures.steps) c.loop-statement.invariant.2)
+    sym (none_whole _ _ c.loop-statement.invariant.0 (yields_end c.args.subject.now.statements c.loop-statement.invariant.0 c.loop-statement.statement-iterator c.next.new.self c.next.result c.loop-statement.invariant.1 c.in-None.is c.next.ensures.steps) c.loop-statement.invariant.2)
     ∙ misplaced_is c.args.facts.now.statements.now c.args.kind c.args.subject.now.id.number _ (map mm_of c.in_ok-lengths.lengths.items) c.requires.subject.statements c.in_ok-lengths.ensures (rw (← c.class.ensures) (sym (c.is_of.ensures _ c.requires.subject) ∙ c.if-not-is_of.false))

@@ -2,8 +2,7 @@ use Rattle.std.proofs.Common.{◌∙◌, ◌++◌, ap, sym, List}
 use Rattle.std.specs.Map.Iter.{deref_pair}
 use Rattle.std.proofs.lemmas.Map.Iter.{rest_all, rest_more}
 use Rattle.cim_words.specs.declared.identifier.Id.{Id}
-use Rattle.cim_records.proofs.Kept.{key, kept, equipment_test, equipment_kept, equipment_passes}
-use Rattle.cim_records.proofs.Taken.{taken_all, taken_more}
+use Rattle.cim_records.proofs.Taken.{taken_all, taken_more, key, kept, equipment_test, equipment_kept, equipment_passes}
 use Rattle.cim_records.proofs.tables.equipment.Goals as goal
 
 pub returns : goal.returns

@@ -2,8 +2,7 @@ use Rattle.std.proofs.Common.{◌∙◌, ap}
 use Rattle.std.specs.Map.Iter.{deref_pair}
 use Rattle.std.proofs.lemmas.Map.Iter.{rest_all, rest_more}
 use Rattle.cim_records.specs.Found.{members}
-use Rattle.cim_records.proofs.Marked.{entry_mark, marked, marked_more, marks_told, stands_on}
-use Rattle.cim_records.proofs.Taken.{taken_all}
+use Rattle.cim_records.proofs.Taken.{taken_all, entry_mark, marked, marked_more, marks_told, stands_on}
 use Rattle.cim_records.proofs.tables.marks.Goals as goal
 
 pub returns : goal.returns

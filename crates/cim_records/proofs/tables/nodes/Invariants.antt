@@ -1,5 +1,5 @@
 use Rattle.std.proofs.Common.{◌≡◌, ◌++◌}
-use Rattle.cim_records.proofs.Kept.{kept, node_test}
+use Rattle.cim_records.proofs.Taken.{kept, node_test}
 use Rattle.cim_records.proofs.tables.nodes.Given as goal
 
 abbrev pub invariant-loop-id : goal.invariant-loop-id

@@ -1,5 +1,6 @@
-use Rattle.cim_model.proofs.ListMembers.{among_contained, contains_among}
-use Rattle.link_rules.proofs.OneSorted.{one_sorted, terms_one_way}
+use Rattle.plain_laws.proofs.Members.{among_contained, contains_among}
+use Rattle.plain_laws.proofs.Sorted.{one_sorted}
+use Rattle.room_words.proofs.Compared.{terms_one_way}
 use Rattle.link_rules.proofs.laws.one_list_of_members.Goals as goal
 use Rattle.room_words.specs.Terms.{term_order}
 

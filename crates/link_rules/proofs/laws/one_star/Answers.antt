@@ -1,5 +1,5 @@
 use Rattle.link_rules.specs.Inputs.{marks_in}
-use Rattle.link_rules.proofs.OneStar.{one_star}
+use Rattle.link_rules.proofs.Passes.{one_star}
 use Rattle.link_rules.proofs.laws.one_star.Goals as goal
 
 pub returns : goal.returns

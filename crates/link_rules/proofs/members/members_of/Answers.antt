@@ -1,7 +1,7 @@
 use Rattle.std.proofs.Common.{sym, ◌∙◌, subst, Contains, List}
+use Rattle.plain_laws.proofs.Sorted.{sorted_alike}
 use Rattle.room_words.specs.Terms.{term_order}
 use Rattle.room_words.specs.declared.term.Term.{Term}
-use Rattle.link_rules.proofs.SortedAlike.{sorted_alike}
 use Rattle.link_rules.proofs.members.members_of.Goals as goal
 
 pub returns : goal.returns

@@ -1,5 +1,5 @@
 use Rattle.std.proofs.Common.{sym, ◌∙◌}
-use Rattle.link_rules.proofs.SideLists.{real_first}
+use Rattle.link_rules.proofs.SpokeLists.{real_first}
 use Rattle.link_rules.proofs.terms.side_one.Goals as goal
 
 pub returns-in-None : goal.returns-in-None

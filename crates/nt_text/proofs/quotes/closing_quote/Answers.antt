@@ -1,6 +1,6 @@
 use Rattle.std.proofs.Common.{ℕ, Bool, ◌+◌, ◌∙◌, ap, sym, drop, option_map}
 use Rattle.nt_text.specs.Quotes.{closing_at}
-use Rattle.nt_text.proofs.QuoteCuts.{closing_passes}
+use Rattle.nt_text.proofs.Cuts.{closing_passes}
 use Rattle.nt_text.proofs.quotes.closing_quote.Goals as goal
 
 pub loop-index-preserved : goal.loop-index-preserved

@@ -1,5 +1,5 @@
 use Rattle.std.proofs.Common.{sym}
-use Rattle.nt_text.proofs.QuoteCuts.{quote_cuts}
+use Rattle.nt_text.proofs.Cuts.{quote_cuts}
 use Rattle.nt_text.proofs.quotes.cut_at_quote.Goals as goal
 
 pub returns-clause-found : goal.returns-clause-found

@@ -1,8 +1,7 @@
 use Rattle.std.proofs.Common.{arith, refl}
 use Rattle.nt_text.specs.Reading.{nothing, holds}
-use Rattle.nt_text.proofs.LineReads.{is_utf8_text, fault_reads}
+use Rattle.nt_text.proofs.LineReads.{is_utf8_text, fault_reads, denied}
 use Rattle.nt_text.proofs.OneReading.{one_reading, told_only}
-use Rattle.nt_text.proofs.Triples.{denied}
 use Rattle.nt_text.proofs.reading.read_line.Goals as goal
 
 pub returns-then-is_empty_line-clause-only : goal.returns-then-is_empty_line-clause-only

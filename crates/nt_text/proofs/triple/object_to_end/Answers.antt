@@ -1,7 +1,7 @@
 use Rattle.std.proofs.Common.{◌≡◌, ◌∙◌, Some, None, IfOk, inl, inr, sym, ap, subst}
 use Rattle.cim_words.specs.Object.{object_of}
 use Rattle.cim_words.specs.declared.object.Object.{Object}
-use Rattle.nt_text.proofs.ObjectEnds.{object_to_end, iri_no_literal}
+use Rattle.nt_text.proofs.LiteralEnds.{object_to_end, iri_no_literal}
 use Rattle.nt_text.proofs.triple.object_to_end.Goals as goal
 
 pub returns-in-Some-clause-only : goal.returns-in-Some-clause-only

@@ -2,7 +2,7 @@ use Rattle.std.proofs.Common.{◌≡◌, List, ℕ, Some, None, inr, refl, sym, 
 use Rattle.std.specs.String.{string_bytes}
 use Rattle.cim_words.specs.declared.object.Object.{Object}
 use Rattle.nt_text.specs.Grammar.{HasIri}
-use Rattle.nt_text.proofs.Triples.{NoObject, no_triple, denied}
+use Rattle.nt_text.proofs.LineReads.{NoObject, no_triple, denied}
 use Rattle.nt_text.proofs.triple.triple_of.Goals as goal
 
 pub returns-in_default-clause-cause : goal.returns-in_default-clause-cause

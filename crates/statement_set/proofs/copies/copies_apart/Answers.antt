@@ -1,6 +1,6 @@
 use Rattle.std.proofs.Common.{◌∙◌}
 use Rattle.std.proofs.lemmas.List.{take_all}
-use Rattle.statement_set.proofs.Kept.{passed_over, copied, difference}
+use Rattle.statement_set.proofs.Members.{passed_over, copied, difference}
 use Rattle.statement_set.proofs.copies.copies_apart.Goals as goal
 
 pub loop-statement-preserved-then-is_among : goal.loop-statement-preserved-then-is_among

@@ -1,6 +1,6 @@
 use Rattle.std.proofs.Common.{◌≡◌, take}
 use Rattle.std.specs.List.{filter}
-use Rattle.statement_set.proofs.Kept.{stays}
+use Rattle.statement_set.proofs.Members.{stays}
 use Rattle.statement_set.proofs.copies.copies_apart.Given as goal
 
 abbrev pub invariant-loop-statement : goal.invariant-loop-statement

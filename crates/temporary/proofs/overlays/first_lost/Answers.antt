@@ -11,7 +11,7 @@ use Rattle.room_words.specs.declared.overlay.Position.{Position}
 use Rattle.temporary.specs.Lost.{AllHave, IsFirstLost}
 use Rattle.temporary.specs.Parts.{does_stand, is_of_switch}
 use Rattle.room_words.specs.declared.lost.Lost.{Lost}
-use Rattle.temporary.proofs.Firsts.{all_have, first_without}
+use Rattle.temporary.proofs.Tests.{all_have, first_without}
 use Rattle.temporary.proofs.Whole.{item_passes, item_stands}
 use Rattle.temporary.proofs.overlays.first_lost.Goals as goal
 

@@ -12,12 +12,9 @@ load-requires g c = (search rules, search rules, can_claim g.V.Dated.log g.V.Dat
 pub loop-console-preserved : goal.loop-console-preserved
 loop-console-preserved g c = (search rules, claimed g.V.Dated.log g.V.Dated.origin 0 c.loop-console.seat.me c.load.new.seat.me c.turn.new.self.me c.args.consoles c.loop-console.console c.load.result c.args.first.now c.loop-console.invariant.1 (search rules) c.load.ensures.2 c.turn.ensures.2)
 
-pub returns-clause-table : goal.returns-clause-table
-returns-clause-table g c = c.loop-console.invariant.0
-
-pub returns-clause-seat : goal.returns-clause-seat
-returns-clause-seat g c =
+pub returns : goal.returns
+returns g c =
     let over = c.loop-console-test.false in
     let within = c.loop-console.auto.console-end in
     let all : c.loop-console.console ≡ c.args.consoles = omega arith in
-    c.loop-console.invariant.1 ∙ ap (λ k. opening_seat c.args.consoles k 0 (g.V.Dated.log c.args.first.now) (g.V.Dated.origin c.args.first.now)) all
+    record { table = c.loop-console.invariant.0; seat = c.loop-console.invariant.1 ∙ ap (λ k. opening_seat c.args.consoles k 0 (g.V.Dated.log c.args.first.now) (g.V.Dated.origin c.args.first.now)) all }

@@ -40,19 +40,12 @@ loop-console-preserved g c =
     let more = one_more seat c.loop-console.readers.items c.push.new.self.items c.enroll-reader.result c.loop-console.console pushed i.2 i.3 reader_is in
     (c.enroll-reader.ensures.table ∙ i.0, c.enroll-reader.ensures.seat ∙ ap (λ v. opening_seat c.args.consoles c.args.consoles (c.loop-console.console + 1) (g.V.Dated.log v) (g.V.Dated.origin v)) same, more.0, more.1)
 
-pub returns-clause-table : goal.returns-clause-table
-returns-clause-table g c = c.loop-console.invariant.0
-
-pub returns-clause-seat : goal.returns-clause-seat
-returns-clause-seat g c =
+pub returns : goal.returns
+returns g c =
     let over = c.loop-console-test.false in
     let within = c.loop-console.auto.console-end in
-    let all : c.loop-console.console ≡ c.args.consoles = omega arith in
-    c.loop-console.invariant.1 ∙ ap (λ k. opening_seat c.args.consoles c.args.consoles k (g.V.Dated.log c.args.first.now) (g.V.Dated.origin c.args.first.now)) all
-
-pub returns-clause-readers : goal.returns-clause-readers
-returns-clause-readers g c =
-    let over = c.loop-console-test.false in
-    let within = c.loop-console.auto.console-end in
-    let all : c.loop-console.console ≡ c.args.consoles = omega arith in
-    (c.loop-console.invariant.2 ∙ all, λ k l. c.loop-console.invariant.3 k (omega arith))
+    let all : c.loop-console.console ≡ c.args.consoles = omega arith in record {
+      table = c.loop-console.invariant.0;
+      seat = c.loop-console.invariant.1 ∙ ap (λ k. opening_seat c.args.consoles c.args.consoles k (g.V.Dated.log c.args.first.now) (g.V.Dated.origin c.args.first.now)) all;
+      readers = (c.loop-console.invariant.2 ∙ all, λ k l. c.loop-console.invariant.3 k (omega arith));
+    }

@@ -1,6 +1,7 @@
-use Rattle.std.proofs.Common.{rules, arith, ◌≡◌, ◌+◌, ◌*◌, ap, Some}
+use Rattle.std.proofs.lemmas.Option.{same_Some}
+use Rattle.std.proofs.Common.{rules, arith, ◌≡◌, ◌+◌, ◌*◌, ap, Some, sym, ◌∙◌}
 use Rattle.board.specs.Word.{slot_in}
-use Rattle.board.proofs.Swaps.{gathers, gathered, gathers_all, IsCollected, in_hand, in_slot, same_version}
+use Rattle.board.proofs.Swaps.{gathers, gathered, gathers_all, IsCollected, in_hand, in_slot}
 use Rattle.board.proofs.reader.front.collect.Goals as goal
 
 pub overflow_mul-console : goal.overflow_mul-console
@@ -50,42 +51,12 @@ number_in-requires g c = let h : IsCollected g.V.Dated.log g.V.Dated.origin c.ar
     c.requires.pending c.exchange.ensures.3 c.swap-word.ensures.2 in
     h.narrow
 
-pub returns-clause-collected : goal.returns-clause-collected
-returns-clause-collected g c = let h : IsCollected g.V.Dated.log g.V.Dated.origin c.args.seat.now.me c.swap-word.new.seat.me c.args.console c.swap-word.result =
+pub returns : goal.returns
+returns g c = let h : IsCollected g.V.Dated.log g.V.Dated.origin c.args.seat.now.me c.swap-word.new.seat.me c.args.console c.swap-word.result =
     gathered g.V.Dated.log g.V.Dated.origin 0 c.args.seat.now.me c.exchange.new.seat.me c.swap-word.new.seat.me c.args.console c.args.front.slot c.args.front.number c.stale_word.result c.swap-word.result c.args.front.version
     c.requires.pending c.exchange.ensures.3 c.swap-word.ensures.2 in
     let out : c.exchange-2.result ≡ Some h.version = in_slot g.V.Dated.log g.V.Dated.origin c.swap-word.new.seat.me _ (3 * c.args.console + c.slot_in-slot.result) _ (Some h.version) c.exchange-2.result _ h.after c.exchange-2.ensures.2 in
-    let version_is : h.version ≡ c.in-Some.version = same_version g.V.Dated.log g.V.Dated.origin h.version c.in-Some.version c.exchange-2.result out c.in-Some.is in
+    let version_is : h.version ≡ c.in-Some.version = same_Some h.version c.in-Some.version (sym out ∙ c.in-Some.is) in
     let all = gathers_all g.V.Dated.log g.V.Dated.origin c.args.seat.now.me c.swap-word.new.seat.me c.exchange-2.new.seat.me c.args.console c.swap-word.result c.slot_in-slot.result c.number_in.result c.in-Some.version h version_is
     c.slot_in-slot.ensures c.number_in.ensures c.requires.pending.settled c.exchange-2.ensures.3 in
-    all.watches
-
-pub returns-clause-seen : goal.returns-clause-seen
-returns-clause-seen g c = let h : IsCollected g.V.Dated.log g.V.Dated.origin c.args.seat.now.me c.swap-word.new.seat.me c.args.console c.swap-word.result =
-    gathered g.V.Dated.log g.V.Dated.origin 0 c.args.seat.now.me c.exchange.new.seat.me c.swap-word.new.seat.me c.args.console c.args.front.slot c.args.front.number c.stale_word.result c.swap-word.result c.args.front.version
-    c.requires.pending c.exchange.ensures.3 c.swap-word.ensures.2 in
-    let out : c.exchange-2.result ≡ Some h.version = in_slot g.V.Dated.log g.V.Dated.origin c.swap-word.new.seat.me _ (3 * c.args.console + c.slot_in-slot.result) _ (Some h.version) c.exchange-2.result _ h.after c.exchange-2.ensures.2 in
-    let version_is : h.version ≡ c.in-Some.version = same_version g.V.Dated.log g.V.Dated.origin h.version c.in-Some.version c.exchange-2.result out c.in-Some.is in
-    let all = gathers_all g.V.Dated.log g.V.Dated.origin c.args.seat.now.me c.swap-word.new.seat.me c.exchange-2.new.seat.me c.args.console c.swap-word.result c.slot_in-slot.result c.number_in.result c.in-Some.version h version_is
-    c.slot_in-slot.ensures c.number_in.ensures c.requires.pending.settled c.exchange-2.ensures.3 in
-    (all.begins, all.whole)
-
-pub returns-clause-found : goal.returns-clause-found
-returns-clause-found g c = let h : IsCollected g.V.Dated.log g.V.Dated.origin c.args.seat.now.me c.swap-word.new.seat.me c.args.console c.swap-word.result =
-    gathered g.V.Dated.log g.V.Dated.origin 0 c.args.seat.now.me c.exchange.new.seat.me c.swap-word.new.seat.me c.args.console c.args.front.slot c.args.front.number c.stale_word.result c.swap-word.result c.args.front.version
-    c.requires.pending c.exchange.ensures.3 c.swap-word.ensures.2 in
-    let out : c.exchange-2.result ≡ Some h.version = in_slot g.V.Dated.log g.V.Dated.origin c.swap-word.new.seat.me _ (3 * c.args.console + c.slot_in-slot.result) _ (Some h.version) c.exchange-2.result _ h.after c.exchange-2.ensures.2 in
-    let version_is : h.version ≡ c.in-Some.version = same_version g.V.Dated.log g.V.Dated.origin h.version c.in-Some.version c.exchange-2.result out c.in-Some.is in
-    let all = gathers_all g.V.Dated.log g.V.Dated.origin c.args.seat.now.me c.swap-word.new.seat.me c.exchange-2.new.seat.me c.args.console c.swap-word.result c.slot_in-slot.result c.number_in.result c.in-Some.version h version_is
-    c.slot_in-slot.ensures c.number_in.ensures c.requires.pending.settled c.exchange-2.ensures.3 in
-    all.found
-
-pub returns-clause-origin : goal.returns-clause-origin
-returns-clause-origin g c = let h : IsCollected g.V.Dated.log g.V.Dated.origin c.args.seat.now.me c.swap-word.new.seat.me c.args.console c.swap-word.result =
-    gathered g.V.Dated.log g.V.Dated.origin 0 c.args.seat.now.me c.exchange.new.seat.me c.swap-word.new.seat.me c.args.console c.args.front.slot c.args.front.number c.stale_word.result c.swap-word.result c.args.front.version
-    c.requires.pending c.exchange.ensures.3 c.swap-word.ensures.2 in
-    let out : c.exchange-2.result ≡ Some h.version = in_slot g.V.Dated.log g.V.Dated.origin c.swap-word.new.seat.me _ (3 * c.args.console + c.slot_in-slot.result) _ (Some h.version) c.exchange-2.result _ h.after c.exchange-2.ensures.2 in
-    let version_is : h.version ≡ c.in-Some.version = same_version g.V.Dated.log g.V.Dated.origin h.version c.in-Some.version c.exchange-2.result out c.in-Some.is in
-    let all = gathers_all g.V.Dated.log g.V.Dated.origin c.args.seat.now.me c.swap-word.new.seat.me c.exchange-2.new.seat.me c.args.console c.swap-word.result c.slot_in-slot.result c.number_in.result c.in-Some.version h version_is
-    c.slot_in-slot.ensures c.number_in.ensures c.requires.pending.settled c.exchange-2.ensures.3 in
-    all.began
+    record { table = search rules; collected = all.watches; seen = (all.begins, all.whole); found = all.found; origin = all.began }

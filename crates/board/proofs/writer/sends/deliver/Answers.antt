@@ -36,12 +36,11 @@ exchange-requires-2 g c = let h : IsSent g.V.Dated.log g.V.Dated.origin c.args.s
     let e : 3 * c.args.console + c.slot_in-slot.result ≡ 3 * c.args.console + slot_in c.swap.result = ap (λ k. 3 * c.args.console + k) c.slot_in-slot.ensures in
     (search rules, (h.left, in_hand g.V.Dated.log g.V.Dated.origin c.swap.new.seat.me _ (3 * c.args.console + c.slot_in-slot.result) _ h.left _ h.after e))
 
-pub returns-clause-slot : goal.returns-clause-slot
-returns-clause-slot g c = let h : IsSent g.V.Dated.log g.V.Dated.origin c.args.seat.now.me c.swap.new.seat.me c.args.console c.args.share c.swap.result =
+pub returns : goal.returns
+returns g c = let h : IsSent g.V.Dated.log g.V.Dated.origin c.args.seat.now.me c.swap.new.seat.me c.args.console c.args.share c.swap.result =
     sent g.V.Dated.log g.V.Dated.origin 0 c.args.seat.now.me c.exchange.new.seat.me c.swap.new.seat.me c.args.console c.args.back c.fresh_word-word.result c.swap.result c.args.share c.requires.ready c.exchange.ensures.3 c.swap.ensures.2 in
-    let s = h.slot in let e = c.slot_in-slot.ensures in omega arith
-
-pub returns-clause-sent : goal.returns-clause-sent
-returns-clause-sent g c = let h : IsSent g.V.Dated.log g.V.Dated.origin c.args.seat.now.me c.swap.new.seat.me c.args.console c.args.share c.swap.result =
-    sent g.V.Dated.log g.V.Dated.origin 0 c.args.seat.now.me c.exchange.new.seat.me c.swap.new.seat.me c.args.console c.args.back c.fresh_word-word.result c.swap.result c.args.share c.requires.ready c.exchange.ensures.3 c.swap.ensures.2 in
-    sent_after g.V.Dated.log g.V.Dated.origin c.args.seat.now.me c.swap.new.seat.me c.exchange-2.new.seat.me c.args.console c.slot_in-slot.result c.swap.result c.args.share h c.slot_in-slot.ensures c.exchange-2.ensures.3
+    let s = h.slot in let e = c.slot_in-slot.ensures in record {
+      table = search rules;
+      slot = omega arith;
+      sent = sent_after g.V.Dated.log g.V.Dated.origin c.args.seat.now.me c.swap.new.seat.me c.exchange-2.new.seat.me c.args.console c.slot_in-slot.result c.swap.result c.args.share h c.slot_in-slot.ensures c.exchange-2.ensures.3;
+    }

@@ -1,6 +1,6 @@
-use Rattle.std.proofs.Common.{rules, arith, ◌≡◌, ◌+◌, ◌-◌, ◌<◌, length, take, get_or, replicate, refl, ap, ◌∙◌, vec_len}
-use Rattle.std.proofs.lemmas.List.{length-replicate}
-use Rattle.board.proofs.Rounds.{begin, can_send, next, finish, one_share, fewer_shares, given, taken}
+use Rattle.std.proofs.Common.{rules, arith, ◌≡◌, ◌+◌, ◌-◌, ◌<◌, length, take, replicate, refl, ap, ◌∙◌, vec_len, sym}
+use Rattle.std.proofs.lemmas.Option.{none-some, same_Some}
+use Rattle.board.proofs.Rounds.{begin, can_send, next, finish, popped_share, fewer_shares}
 use Rattle.board.proofs.writer.sends.send_all.Goals as goal
 
 pub loop-console-init : goal.loop-console-init
@@ -15,10 +15,7 @@ unreachable-requires g c =
     let size : vec_len c.args.backs.now ≡ length c.args.backs.now.items = search rules in
     let lt : c.loop-console.console < length c.args.backs.now.items = omega arith in
     let left : 0 < length c.args.backs.now.items - c.loop-console.console = omega arith in
-    let shares : length c.loop-console.shares.items ≡ length c.args.backs.now.items - c.loop-console.console = ap length c.loop-console.invariant.1 ∙ length-replicate (length c.args.backs.now.items - c.loop-console.console) c.args.version.now in
-    let room : vec_len c.loop-console.shares ≡ length c.loop-console.shares.items = search rules in
-    let some : 0 < vec_len c.loop-console.shares = omega arith in
-    given g.V.Dated.log g.V.Dated.origin c.pop.result c.in_default.is (c.pop.ensures.value c.args.version.now some)
+    none-some c.args.version.now (sym c.in_default.is ∙ popped_share g.V.Dated.log g.V.Dated.origin c.loop-console.shares.items c.args.version.now c.pop.result (vec_len c.loop-console.shares) (length c.args.backs.now.items - c.loop-console.console) c.loop-console.invariant.1 (search rules) left (c.pop.ensures.value c.args.version.now))
 
 pub deliver-requires-clause-table : goal.deliver-requires-clause-table
 deliver-requires-clause-table g c κs within =
@@ -35,13 +32,7 @@ deliver-requires-clause-ready g c κs within =
     let size : vec_len c.args.backs.now ≡ length c.args.backs.now.items = search rules in
     let lt : c.loop-console.console < length c.args.backs.now.items = omega arith in
     let left : 0 < length c.args.backs.now.items - c.loop-console.console = omega arith in
-    let shares : length c.loop-console.shares.items ≡ length c.args.backs.now.items - c.loop-console.console = ap length c.loop-console.invariant.1 ∙ length-replicate (length c.args.backs.now.items - c.loop-console.console) c.args.version.now in
-    let room : vec_len c.loop-console.shares ≡ length c.loop-console.shares.items = search rules in
-    let some : 0 < vec_len c.loop-console.shares = omega arith in
-    let share_is : c.in-Some.share ≡ c.args.version.now =
-    taken g.V.Dated.log g.V.Dated.origin c.pop.result c.in-Some.share c.in-Some.is (c.pop.ensures.value c.args.version.now some)
-    ∙ (ap (λ n. get_or c.loop-console.shares.items (n - 1) c.args.version.now) room
-    ∙ one_share g.V.Dated.log g.V.Dated.origin c.loop-console.shares.items c.args.version.now c.args.version.now (length c.args.backs.now.items - c.loop-console.console) c.loop-console.invariant.1 left) in
+    let share_is : c.in-Some.share ≡ c.args.version.now = same_Some c.in-Some.share c.args.version.now (sym c.in-Some.is ∙ popped_share g.V.Dated.log g.V.Dated.origin c.loop-console.shares.items c.args.version.now c.pop.result (vec_len c.loop-console.shares) (length c.args.backs.now.items - c.loop-console.console) c.loop-console.invariant.1 (search rules) left (c.pop.ensures.value c.args.version.now)) in
     can_send g.V.Dated.log g.V.Dated.origin c.loop-console.seat.me c.loop-console.backs.items c.args.version.now c.in-Some.share c.loop-console.console (length c.args.backs.now.items) c.index.result.now c.loop-console.invariant.2 lt share_is c.index.ensures
 
 pub loop-console-preserved : goal.loop-console-preserved
@@ -51,13 +42,7 @@ loop-console-preserved g c =
     let size : vec_len c.args.backs.now ≡ length c.args.backs.now.items = search rules in
     let lt : c.loop-console.console < length c.args.backs.now.items = omega arith in
     let left : 0 < length c.args.backs.now.items - c.loop-console.console = omega arith in
-    let shares : length c.loop-console.shares.items ≡ length c.args.backs.now.items - c.loop-console.console = ap length c.loop-console.invariant.1 ∙ length-replicate (length c.args.backs.now.items - c.loop-console.console) c.args.version.now in
-    let room : vec_len c.loop-console.shares ≡ length c.loop-console.shares.items = search rules in
-    let some : 0 < vec_len c.loop-console.shares = omega arith in
-    let share_is : c.in-Some.share ≡ c.args.version.now =
-    taken g.V.Dated.log g.V.Dated.origin c.pop.result c.in-Some.share c.in-Some.is (c.pop.ensures.value c.args.version.now some)
-    ∙ (ap (λ n. get_or c.loop-console.shares.items (n - 1) c.args.version.now) room
-    ∙ one_share g.V.Dated.log g.V.Dated.origin c.loop-console.shares.items c.args.version.now c.args.version.now (length c.args.backs.now.items - c.loop-console.console) c.loop-console.invariant.1 left) in
+    let share_is : c.in-Some.share ≡ c.args.version.now = same_Some c.in-Some.share c.args.version.now (sym c.in-Some.is ∙ popped_share g.V.Dated.log g.V.Dated.origin c.loop-console.shares.items c.args.version.now c.pop.result (vec_len c.loop-console.shares) (length c.args.backs.now.items - c.loop-console.console) c.loop-console.invariant.1 (search rules) left (c.pop.ensures.value c.args.version.now)) in
     let len : vec_len c.loop-console.shares ≡ length c.loop-console.shares.items = search rules in
     let k : length c.args.backs.now.items - c.loop-console.console - 1 ≡ length c.args.backs.now.items - (c.loop-console.console + 1) = omega arith in (
       c.turn.ensures.0 ∙ (c.deliver.ensures.table ∙ c.loop-console.invariant.0),

@@ -1,9 +1,9 @@
 use Rattle.std.proofs.Common.{◌∙◌, sym, true, false}
 use Rattle.cim_model.specs.Model.{said}
 use Rattle.cim_profile.specs.MarkKind.{length_of}
-use Rattle.cim_profile.proofs.RowValues.{zero_read}
 use Rattle.cim_profile.proofs.facts.Facts.mark_lengths.Goals as goal
 use Rattle.cim_profile.proofs.facts.Facts.mark_lengths.Goals.{then-is_empty+in_ok-push, else-is_empty}
+use Rattle.cim_profile.proofs.RowValues.{zero_read}
 
 pub returns : goal.returns
 returns c =

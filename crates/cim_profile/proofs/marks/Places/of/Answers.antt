@@ -4,9 +4,9 @@ use Rattle.std.proofs.lemmas.List.Filters.{dedup_is}
 use Rattle.std.proofs.lemmas.List.Folds.{list_any-append}
 use Rattle.std.proofs.lemmas.List.Kept.{IsStrictlySortedBy-dedup}
 use Rattle.std.proofs.lemmas.List.Sorted.{list_any-IsPermutation}
+use Rattle.plain_laws.proofs.Tests.{any_dedup}
 use Rattle.cim_profile.specs.Places.{is_at, any_mark}
 use Rattle.cim_profile.specs.declared.mark_kind.MarkKind.TheVariants.{Cut}
-use Rattle.cim_profile.proofs.Lists.{any_dedup}
 use Rattle.cim_profile.proofs.PlaceOrder.{place_order_total, places_same, places_tie, same_place}
 use Rattle.cim_profile.proofs.marks.Places.of.Goals as goal
 

@@ -5,7 +5,7 @@ use Rattle.cim_records.specs.Found.{found}
 use Rattle.cim_records.specs.Subject.{records}
 use Rattle.cim_records.specs.declared.subject.Subject.{Subject}
 use Rattle.cim_records.specs.declared.tables.Tables.{Tables}
-use Rattle.cim_records.proofs.Kept.{equipment_found, no_equipment}
+use Rattle.cim_records.proofs.Taken.{equipment_found, no_equipment}
 use Rattle.cim_records.proofs.index.Index.is_equipment.Goals as goal
 
 pub returns-in-Some : goal.returns-in-Some

@@ -3,7 +3,7 @@ use Rattle.cim_model.specs.Reach.{IsReached}
 use Rattle.cim_model.specs.Trace.{IsTrace}
 use Rattle.graph_pages.specs.Graph.{star_of}
 use Rattle.graph_pages.specs.Walks.{wiring}
-use Rattle.feeder_trace.proofs.TraceLemmas.{own_number, traced}
+use Rattle.feeder_trace.proofs.RowLemmas.{own_number, traced}
 use Rattle.feeder_trace.proofs.tracer.Tracer.trace.Goals as goal
 
 pub walk-requires-clause-star : goal.walk-requires-clause-star

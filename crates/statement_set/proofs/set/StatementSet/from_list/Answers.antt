@@ -1,6 +1,6 @@
 use Rattle.std.proofs.Common.{Contains}
 use Rattle.statement_set.specs.Set.{IsSetOf}
-use Rattle.statement_set.proofs.Giving.{gives_same}
+use Rattle.statement_set.proofs.Members.{gives_same}
 use Rattle.statement_set.proofs.set.StatementSet.from_list.Goals as goal
 
 pub returns : goal.returns

@@ -1,7 +1,7 @@
 use Rattle.std.proofs.Common.{◌≡◌, ◌++◌, List, Contains, refl, subst}
 use Rattle.cim_words.specs.declared.statement.Statement.{Statement}
 use Rattle.statement_set.specs.Gives.{Gives}
-use Rattle.statement_set.proofs.Giving.{gives_union}
+use Rattle.statement_set.proofs.Members.{gives_union}
 use Rattle.statement_set.proofs.set.StatementSet.with.Goals as goal
 
 pub returns : goal.returns

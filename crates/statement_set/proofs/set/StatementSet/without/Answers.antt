@@ -1,7 +1,7 @@
 use Rattle.std.proofs.Common.{◌≡◌, List, Contains, refl, subst, subst₂}
 use Rattle.cim_words.specs.declared.statement.Statement.{Statement}
 use Rattle.statement_set.specs.Set.{IsSetOf, IsInFirstAlone}
-use Rattle.statement_set.proofs.Giving.{gives_difference}
+use Rattle.statement_set.proofs.Members.{gives_difference}
 use Rattle.statement_set.proofs.set.StatementSet.without.Goals as goal
 
 pub returns : goal.returns

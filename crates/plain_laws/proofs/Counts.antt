@@ -44,7 +44,7 @@ one_at_most : (a b : Bool) → (a ≡ true → b ≡ true) → cond a 1 0 ≤ co
 one_at_most false b implies = omega arith
 one_at_most true b implies = let e : b ≡ true = implies refl in rw e (omega arith)
 
--- where one test passes all that the other passes, it counts fails fewer
+-- where one test passes all that the other passes, it counts no fewer
 pub count_at_most : {X : Type 0} (p q : X → Bool) (xs : List X) → All (λ x. p x ≡ true → q x ≡ true) xs → count_by p xs ≤ count_by q xs
 count_at_most p q [] wider = omega arith
 count_at_most {X} p q (x ∷ xs) wider =

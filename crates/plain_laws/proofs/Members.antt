@@ -1,8 +1,9 @@
--- Membership in a list by recursion over it, and what is a member of a list that is made from another one.
-use Rattle.std.proofs.Common.{◌≡◌, ℕ, zero, suc, ◌<◌, ◌⊎◌, inl, inr, List, [], ◌∷◌, ◌++◌, map, length, get_or, Bool, true, false, cond, Option, Some, None, Contains, refl, ap, ◌∙◌, subst, arith}
-use Rattle.std.specs.List.{filter, filter_map, cons_option, list_any, find}
+-- What is among the elements of a list: membership by recursion, and the members of a list that is made from another one.
+use Rattle.std.proofs.Common.{◌≡◌, ℕ, zero, suc, ◌<◌, ◌⊎◌, inl, inr, List, [], ◌∷◌, ◌++◌, map, length, get_or, Bool, true, false, cond, Option, Some, None, Contains, refl, ap, sym, ◌∙◌, subst, arith, ⊎_elim}
+use Rattle.std.specs.List.{filter, filter_map, cons_option, flat_map}
+use Rattle.std.proofs.lemmas.List.{get_or_default}
+use Rattle.std.proofs.lemmas.List.Elements.{Contains-append_left, Contains-push, Contains-append_cases, Contains-push_cases}
 use Rattle.std.proofs.lemmas.Option.{same_Some}
-use Rattle.cim_model.proofs.Runs.{either, or_left, or_right}
 
 -- an element is the first of a list, or among the others
 abbrev pub Among : {X : Type 0} → List X → X → Type 0
@@ -18,13 +19,13 @@ among_at (y ∷ ys) (suc k) x d within is = inr (among_at ys k x d (omega arith)
 pub among_contained : {X : Type 0} (xs : List X) (x : X) → Contains xs x → Among xs x
 among_contained xs x h = among_at xs h.0 x x h.1 h.2
 
-contains_next : {X : Type 0} (y : X) (ys : List X) (x : X) → Contains ys x → Contains (y ∷ ys) x
-contains_next y ys x h = (suc h.0, omega (arith, h.1), h.2)
+pub contains_rest : {X : Type 0} (y : X) (ys : List X) (x : X) → Contains ys x → Contains (y ∷ ys) x
+contains_rest y ys x h = (suc h.0, omega (arith, h.1), h.2)
 
 pub contains_among : {X : Type 0} (xs : List X) (x : X) → Among xs x → Contains xs x
 contains_among [] x h = absurd h
 contains_among (y ∷ ys) x (inl is) = (0, omega arith, is)
-contains_among (y ∷ ys) x (inr there) = contains_next y ys x (contains_among ys x there)
+contains_among (y ∷ ys) x (inr there) = contains_rest y ys x (contains_among ys x there)
 
 -- of two lists end to end
 pub among_left : {X : Type 0} (xs ys : List X) (x : X) → Among xs x → Among (xs ++ ys) x
@@ -47,9 +48,9 @@ filtered_one p y kept x true is rest (inl here) = subst (λ (z : _). p z ≡ tru
 filtered_one p y kept x true is rest (inr there) = rest there
 filtered_one p y kept x false is rest h = rest h
 
-pub filter_passes : {X : Type 0} (p : X → Bool) (xs : List X) (x : X) → Among (filter p xs) x → p x ≡ true
-filter_passes p [] x h = absurd h
-filter_passes p (y ∷ ys) x h = filtered_one p y (filter p ys) x (p y) refl (filter_passes p ys x) h
+pub among_filter_passes : {X : Type 0} (p : X → Bool) (xs : List X) (x : X) → Among (filter p xs) x → p x ≡ true
+among_filter_passes p [] x h = absurd h
+among_filter_passes p (y ∷ ys) x h = filtered_one p y (filter p ys) x (p y) refl (among_filter_passes p ys x) h
 
 before_one : {X : Type 0} (y : X) (kept ys : List X) (x : X) (b : Bool) → (Among kept x → Among ys x) → Among (cond b (y ∷ kept) kept) x → Among (y ∷ ys) x
 before_one y kept ys x true rest (inl here) = inl here
@@ -108,36 +109,41 @@ among_filter_map h [] x y there is = absurd there
 among_filter_map h (z ∷ xs) x y (inl here) is = present_first (h z) (filter_map h xs) y (ap h here ∙ is)
 among_filter_map h (z ∷ xs) x y (inr there) is = present_later (h z) (filter_map h xs) y (among_filter_map h xs x y there is)
 
--- a test that some element passes
-pub among_any : {X : Type 0} (p : X → Bool) (xs : List X) (x : X) → Among xs x → p x ≡ true → list_any p xs ≡ true
-among_any p [] x h passes = absurd h
-among_any p (y ∷ ys) x (inl is) passes = or_left (p y) (list_any p ys) (ap p is ∙ passes)
-among_any p (y ∷ ys) x (inr there) passes = or_right (p y) (list_any p ys) (among_any p ys x there passes)
+-- of the lists made of the elements, end to end
+pub among_flat_map : {X Y : Type 0} (f : X → List Y) (xs : List X) (x : X) (y : Y) → Among xs x → Among (f x) y → Among (flat_map f xs) y
+among_flat_map f [] x y there has = absurd there
+among_flat_map f (z ∷ xs) x y (inl is) has = among_left (f z) (flat_map f xs) y (subst (λ (w : _). Among (f w) y) (sym is) has)
+among_flat_map f (z ∷ xs) x y (inr there) has = among_right (f z) (flat_map f xs) y (among_flat_map f xs x y there has)
 
-pub any_among : {X : Type 0} (p : X → Bool) (xs : List X) → list_any p xs ≡ true → (x : X) × Among xs x × (p x ≡ true)
-any_among p [] h = absurd cc
-any_among p (y ∷ ys) h =
-    elim (either (p y) (list_any p ys) h) [ inl here ↦ (y, inl refl, here) | inr there ↦ (let from = any_among p ys there in (from.0, inr from.1, from.2)) ]
+pub flat_map_among : {X Y : Type 0} (f : X → List Y) (xs : List X) (y : Y) → Among (flat_map f xs) y → (x : X) × Among xs x × Among (f x) y
+flat_map_among f [] y there = absurd there
+flat_map_among f (z ∷ xs) y there = elim (among_either (f z) (flat_map f xs) y there) [
+  | inl here ↦ (z, inl refl, here)
+  | inr later ↦ (let from = flat_map_among f xs y later in (from.0, inr from.1, from.2))
+]
 
--- the first value that passes a test, where the values are made from a list
-found_one : {X : Type 0} (p : X → Bool) (y x : X) (ys : List X) (b : Bool) → p y ≡ b → (find p ys ≡ Some x → Among ys x × (p x ≡ true)) → cond b (Some y) (find p ys) ≡ Some x
-    → Among (y ∷ ys) x × (p x ≡ true)
-found_one p y x ys true is rest h = let here : y ≡ x = same_Some y x h in (inl here, subst (λ (z : _). p z ≡ true) here is)
-found_one p y x ys false is rest h = let there = rest h in (inr there.0, there.1)
+-- at an index
+pub among_index : {X : Type 0} (xs : List X) (i : ℕ) (d : X) → i < length xs → Among xs (get_or xs i d)
+among_index xs i d below = among_contained xs (get_or xs i d) (i, below, get_or_default xs i (get_or xs i d) d below)
 
-pub find_among : {X : Type 0} (p : X → Bool) (xs : List X) (x : X) → find p xs ≡ Some x → Among xs x × (p x ≡ true)
-find_among p [] x h = absurd cc
-find_among p (y ∷ ys) x h = found_one p y x ys (p y) refl (find_among p ys x) h
+-- of no elements
+pub among_nothing : {X : Type 0} (xs : List X) (x : X) → length xs ≡ 0 → Among xs x → ⊥
+among_nothing [] x none there = there
+among_nothing (y ∷ xs) x none there = omega arith
 
-mapped_here : {X Y : Type 0} (f : X → Y) (p : Y → Bool) (z x : X) (rest : Option Y) (b : Bool) → p (f z) ≡ b → z ≡ x → p (f x) ≡ true → cond b (Some (f z)) rest ≡ Some (f x)
-mapped_here f p z x rest true is same passes = ap (λ (w : _). Some (f w)) same
-mapped_here f p z x rest false is same passes = absurd (let there : p (f z) ≡ p (f x) = ap (λ (w : _). p (f w)) same in cc)
+-- ---- the same of std's membership
 
-mapped_later : {X Y : Type 0} (f : X → Y) (p : Y → Bool) (z x : X) (rest : Option Y) (b : Bool) → p (f z) ≡ b → (p (f z) ≡ true → z ≡ x) → rest ≡ Some (f x) → cond b (Some (f z)) rest ≡ Some (f x)
-mapped_later f p z x rest true is only later = ap (λ (w : _). Some (f w)) (only is)
-mapped_later f p z x rest false is only later = later
+pub contains_nothing : {X P : Type 0} (x : X) → Contains [] x → P
+contains_nothing x (k, below, is) = absurd (omega arith)
 
-pub find_mapped : {X Y : Type 0} (f : X → Y) (p : Y → Bool) (xs : List X) (x : X) → Among xs x → p (f x) ≡ true → ((z : X) → p (f z) ≡ true → z ≡ x) → find p (map f xs) ≡ Some (f x)
-find_mapped f p [] x h passes only = absurd h
-find_mapped f p (z ∷ xs) x (inl is) passes only = mapped_here f p z x (find p (map f xs)) (p (f z)) refl is passes
-find_mapped f p (z ∷ xs) x (inr there) passes only = mapped_later f p z x (find p (map f xs)) (p (f z)) refl (only z) (find_mapped f p xs x there passes only)
+pub contains_first : {X : Type 0} (x : X) (xs : List X) → Contains (x ∷ xs) x
+contains_first x xs = Contains-append_left (x ∷ []) xs x (Contains-push [] x)
+
+pub contains_cases : {X : Type 0} (x : X) (xs : List X) (y : X) → Contains (x ∷ xs) y → (x ≡ y) ⊎ Contains xs y
+contains_cases x xs y h = ⊎_elim (λ one. ⊎_elim (contains_nothing y) inl (Contains-push_cases [] x y one)) inr (Contains-append_cases (x ∷ []) xs y h)
+
+pub contains_map : {X Y : Type 0} (f : X → Y) (xs : List X) (x : X) → Contains xs x → Contains (map f xs) (f x)
+contains_map f xs x there = contains_among (map f xs) (f x) (among_map f xs x (among_contained xs x there))
+
+pub contains_flat_map : {X Y : Type 0} (f : X → List Y) (xs : List X) (x : X) (y : Y) → Contains xs x → Contains (f x) y → Contains (flat_map f xs) y
+contains_flat_map f xs x y there has = contains_among (flat_map f xs) y (among_flat_map f xs x y (among_contained xs x there) (among_contained (f x) y has))

@@ -1,0 +1,12 @@
+pub mod Counts
+pub mod Each
+pub mod Filters
+pub mod Fronts
+pub mod Members
+pub mod Numbers
+pub mod Options
+pub mod Pairs
+pub mod Parts
+pub mod Sorted
+pub mod Tests
+pub mod Truth

@@ -1,0 +1,2 @@
+//! Laws of lists, truth values, options, numbers and order, with no word of networks in them, for the proofs of the crates above.
+#![tactic(auto)]
