@@ -1,5 +1,4 @@
 pub mod Accepted
-pub mod Lists
 pub mod Makers
 pub mod Passed
 pub mod Placed

@@ -13,12 +13,10 @@ use Rattle.cim_words.specs.declared.statement.Statement.{Statement}
 use Rattle.cim_model.specs.Live.{is_place, item_segment_number, terms_at}
 use Rattle.cim_model.specs.Marks.{marks_on}
 use Rattle.cim_model.specs.Model.{is_of, is_subject}
-use Rattle.cim_model.specs.Network.{length_in, or_else}
+use Rattle.cim_model.specs.Network.{first, length_in, or_else}
 use Rattle.cim_model.specs.Refusals.{already, beyond, crowded, crowded_place, crowded_segment, full, in_the_way, in_use, is_beyond, is_taken, kind, marks_at, no_anchor, no_phase, not_held, not_segment, one_anchor, permanent, refusal_of, refusals, refused_if, same_place, taken, unknown}
 use Rattle.cim_model.specs.Stands.{LiesOn}
 use Rattle.cim_model.specs.Values.{number_of_id}
-use Rattle.cim_model.proofs.ListMembers.{Among}
-use Rattle.cim_model.proofs.Runs.{neither}
 use Rattle.room_words.specs.Items.{anchors, item_id, item_length, item_number, item_phases, item_segment}
 use Rattle.room_words.specs.Overlay.{item_of}
 use Rattle.room_words.specs.Terms.{same_anchor}
@@ -29,7 +27,15 @@ use Rattle.room_words.specs.declared.anchor.Anchor.{Anchor}
 use Rattle.room_words.specs.declared.items.TempItem.{TempItem}
 use Rattle.room_words.specs.declared.overlay.Overlay.{Overlay}
 use Rattle.segment_cuts.specs.declared.mark.Mark.{Mark}
-use Rattle.act_laws.proofs.Lists.{no_first, none_at, none_found, none_there, unmapped}
+use Rattle.plain_laws.proofs.Members.{Among}
+use Rattle.plain_laws.proofs.Options.{position_none, find_none, none_from_false, map_none}
+use Rattle.std.proofs.lemmas.Bool.{or_parts}
+
+-- where no refusal is the first that holds, none holds
+no_first : {X : Type 0} (found : List (Option X)) → first (filter_map (λ (one : Option X). one) found) ≡ None → AllByRecursion (λ (one : Option X). one ≡ None) found
+no_first [] none = tt
+no_first (None ∷ found) none = (refl, no_first found none)
+no_first (Some x ∷ found) none = absurd cc
 
 -- ---- none of the refusals holds
 
@@ -121,7 +127,7 @@ stated_within at (Some limit) is = upto at limit is
 
 lies_on : (m : List Statement) (x at : ℕ) → is_beyond at (length_in m x) ≡ false → LiesOn m x at
 lies_on m x at is =
-    let both = neither (nat_lt most_length at) (option_map_or (λ (limit : ℕ). nat_lt limit at) (length_in m x) false) is in
+    let both = or_parts (nat_lt most_length at) (option_map_or (λ (limit : ℕ). nat_lt limit at) (length_in m x) false) is in
     record { limit = upto at most_length both.0; stated = stated_within at (length_in m x) both.1 }
 
 -- what the refusals say of the item that an act places
@@ -132,21 +138,21 @@ pub can_be_placed : (m : List Statement) (o : Overlay) (one : TempItem) → refu
     → and_then (item_phases one) (λ (phases : PhaseSet). refused_if (has_no_phase phases) refusal.Phases) ≡ None → or_else (crowded_segment m o one) (crowded_place m o one) ≡ None
     → refused_if (true && nat_le most_items (length o.items)) refusal.Full ≡ None → CanBePlaced m o one
 can_be_placed m o one free fits within apart anchored different phased few space =
-    let untaken = neither (is_subject m (item_number one)) (is_some (item_of o (item_number one))) (not_refused _ _ free) in
+    let untaken = or_parts (is_subject m (item_number one)) (is_some (item_of o (item_number one))) (not_refused _ _ free) in
     let uncrowded = neither_there (crowded_segment m o one) (crowded_place m o one) few in
     record {
       unspoken = untaken.0;
-      fresh = none_there (item_of o (item_number one)) untaken.1;
+      fresh = none_from_false (item_of o (item_number one)) untaken.1;
       segment = by_number (λ (x : ℕ). is_of m is_segment x ≡ true) (item_segment one)
           (each_there (λ (id : Id). is_of m is_segment id.number ≡ true) _ (item_segment one) (λ id none. is_so (is_of m is_segment id.number) (not_refused _ _ none)) fits);
       lies = by_number (λ (x : ℕ). LiesOn m x (item_length one)) (item_segment one)
           (each_there (λ (id : Id). LiesOn m id.number (item_length one)) _ (item_segment one) (λ id none. lies_on m id.number (item_length one) (not_refused _ _ none)) within);
       free = by_number (λ (x : ℕ). in_the_way one (marks_at m o x (item_length one)) ≡ None) (item_segment one)
-          (each_there (λ (id : Id). in_the_way one (marks_at m o id.number (item_length one)) ≡ None) _ (item_segment one) (λ id none. unmapped _ (in_the_way one (marks_at m o id.number (item_length one))) none) apart);
+          (each_there (λ (id : Id). in_the_way one (marks_at m o id.number (item_length one)) ≡ None) _ (item_segment one) (λ id none. map_none _ (in_the_way one (marks_at m o id.number (item_length one))) none) apart);
       marks = by_number (λ (x : ℕ). length (marks_on m o x) < most_marks) (item_segment one)
           (each_there (λ (id : Id). length (marks_on m o id.number) < most_marks) _ (item_segment one) (λ id none. below (length (marks_on m o id.number)) most_marks (not_refused _ _ none)) uncrowded.0);
-      places = λ place there. is_so (is_place m o place) (none_at (λ (place : Anchor). not (is_place m o place)) 0 (anchors one) place (unmapped _ _ anchored) there);
-      takes = λ place there. below (length (terms_at m o place)) most_at_place (none_found (λ (place : Anchor). nat_le most_at_place (length (terms_at m o place))) (anchors one) place (unmapped _ _ uncrowded.1) there);
+      places = λ place there. is_so (is_place m o place) (position_none (λ (place : Anchor). not (is_place m o place)) 0 (anchors one) place (map_none _ _ anchored) there);
+      takes = λ place there. below (length (terms_at m o place)) most_at_place (find_none (λ (place : Anchor). nat_le most_at_place (length (terms_at m o place))) (anchors one) place (map_none _ _ uncrowded.1) there);
       different = different;
       phased = each_there (λ (phases : PhaseSet). has_no_phase phases ≡ false) _ (item_phases one) (λ phases none. not_refused _ _ none) phased;
       space = below (length o.items) most_items (not_refused _ _ space);

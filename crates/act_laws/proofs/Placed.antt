@@ -12,7 +12,6 @@ use Rattle.cim_words.specs.Phases.{has_no_phase}
 use Rattle.cim_model.specs.Live.{item_segment_number}
 use Rattle.cim_model.specs.Marks.{marks_on}
 use Rattle.cim_model.specs.Stands.{AreApart, ItemStands, Stands}
-use Rattle.cim_model.proofs.ListMembers.{among_contained, among_either, contains_among, map_among}
 use Rattle.cim_model.proofs.LiveMarks.{live_marks}
 use Rattle.cim_model.proofs.OverlayItems.{IsLive}
 use Rattle.room_words.specs.Items.{anchors, item_number, item_phases}
@@ -21,11 +20,13 @@ use Rattle.room_words.specs.Terms.{same_anchor}
 use Rattle.room_words.specs.declared.anchor.Anchor.{Anchor}
 use Rattle.room_words.specs.declared.items.TempItem.{TempItem}
 use Rattle.room_words.specs.declared.overlay.Overlay.{Overlay}
-use Rattle.act_laws.proofs.Lists.{none_found, none_passes, some_always, some_follows}
 use Rattle.act_laws.proofs.Passed.{CanBePlaced}
 use Rattle.act_laws.proofs.Still.{still}
 use Rattle.act_laws.proofs.PlacedMarks.{bears, with_item}
 use Rattle.act_laws.proofs.PlacedTerms.{takes}
+use Rattle.plain_laws.proofs.Members.{among_contained, among_either, contains_among, map_among}
+use Rattle.plain_laws.proofs.Options.{find_none, if_some_always, if_some_follows}
+use Rattle.plain_laws.proofs.Tests.{among_none}
 
 -- ---- the items
 
@@ -42,9 +43,9 @@ placed_stands m o one live can =
       identifier = can.unspoken;
       segment = can.segment;
       lies = can.lies;
-      few = some_follows (λ (x : ℕ). length (marks_on m o x) < most_marks) (λ (x : ℕ). length (marks_on m (with_item o one) x) ≤ most_marks) (item_segment_number one)
+      few = if_some_follows (λ (x : ℕ). length (marks_on m o x) < most_marks) (λ (x : ℕ). length (marks_on m (with_item o one) x) ≤ most_marks) (item_segment_number one)
           (λ x room. bearing.few x (omega (arith, room))) can.marks;
-      apart = some_always (λ (x : ℕ). AreApart (marks_on m (with_item o one) x)) (item_segment_number one) (λ x. bearing.apart x (live_apart m o x live));
+      apart = if_some_always (λ (x : ℕ). AreApart (marks_on m (with_item o one) x)) (item_segment_number one) (λ x. bearing.apart x (live_apart m o x live));
       places = λ place there. (taking place there).is;
       crowds = λ place there. (taking place there).few;
     }
@@ -63,9 +64,9 @@ differ : (m n : ℕ) → (m == n) ≡ false → nat_eq n m ≡ false
 differ m n is = grind (arith, nat_tests)
 
 other_numbers : (o : Overlay) (n : ℕ) → item_of o n ≡ None → list_any (nat_eq n) (map item_number o.items) ≡ false
-other_numbers o n fresh = none_passes (nat_eq n) (map item_number o.items) (λ k there.
+other_numbers o n fresh = among_none (nat_eq n) (map item_number o.items) (λ k there.
     let from = map_among item_number o.items k there in
-    subst (λ (k : ℕ). nat_eq n k ≡ false) from.2 (differ (item_number from.0) n (none_found (λ (one : TempItem). item_number one == n) o.items from.0 fresh from.1)))
+    subst (λ (k : ℕ). nat_eq n k ≡ false) from.2 (differ (item_number from.0) n (find_none (λ (one : TempItem). item_number one == n) o.items from.0 fresh from.1)))
 
 -- ---- an overlay with one more item
 

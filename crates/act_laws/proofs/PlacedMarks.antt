@@ -11,18 +11,20 @@ use Rattle.cim_model.specs.Live.{item_segment_number}
 use Rattle.cim_model.specs.Marks.{is_item_on, item_mark, item_marks, marks_of, marks_on}
 use Rattle.cim_model.specs.Refusals.{in_the_way, least, marks_at}
 use Rattle.cim_model.specs.Stands.{AreApart}
-use Rattle.cim_model.proofs.ListMembers.{Among, among_filter}
-use Rattle.cim_model.proofs.MarkLists.{is_this}
-use Rattle.cim_model.proofs.OverlayItems.{if_some}
-use Rattle.cim_model.proofs.Runs.{number_itself}
 use Rattle.room_words.specs.Items.{item_length}
 use Rattle.room_words.specs.declared.items.TempItem.{TempItem}
 use Rattle.room_words.specs.declared.items.TempItem.TheVariants as item
 use Rattle.room_words.specs.declared.overlay.Overlay.{Overlay}
 use Rattle.segment_cuts.specs.declared.mark.Mark.{Mark}
-use Rattle.act_laws.proofs.Lists.{all_pass, has_least, none_found, pairs_joined, pairs_one}
 use Rattle.act_laws.proofs.Passed.{CanBePlaced}
 use Rattle.act_laws.proofs.Still.{Bears}
+use Rattle.cim_model.proofs.MarkLists.{some_number_is}
+use Rattle.plain_laws.proofs.Least.{has_least}
+use Rattle.plain_laws.proofs.Members.{Among, among_filter}
+use Rattle.plain_laws.proofs.Numbers.{equal_itself}
+use Rattle.plain_laws.proofs.Options.{if_some, find_none}
+use Rattle.plain_laws.proofs.Pairs.{pairs_append, pairs_one}
+use Rattle.plain_laws.proofs.Tests.{among_all}
 
 abbrev pub with_item : Overlay → TempItem → Overlay
 with_item o one = record { items = o.items ++ one ∷ []; positions = o.positions }
@@ -47,7 +49,7 @@ marks_if : (x : ℕ) (one : TempItem) (b : Bool) (found : Option Mark) → is_it
     → (filter_map item_mark (cond b (one ∷ []) []) ≡ []) ⊎ ((mark : Mark) × (filter_map item_mark (cond b (one ∷ []) []) ≡ mark ∷ []) × IsNewMark x one mark)
 marks_if x one false found on is = inl refl
 marks_if x one true None on is = inl (rw is refl)
-marks_if x one true (Some mark) on is = inr (mark, rw is refl, record { mark = is; on = is_this x (item_segment_number one) on })
+marks_if x one true (Some mark) on is = inr (mark, rw is refl, record { mark = is; on = some_number_is x (item_segment_number one) on })
 
 new_marks_are : (x : ℕ) (one : TempItem) → (new_marks x one ≡ []) ⊎ ((mark : Mark) × (new_marks x one ≡ mark ∷ []) × IsNewMark x one mark)
 new_marks_are x one = marks_if x one (is_item_on x one) (item_mark one) refl refl
@@ -75,14 +77,14 @@ no_least [] a none there = there
 no_least (x ∷ marks) a none there =
     let found = has_least (λ (mark : Mark). mark.id.number) x marks in
     let test : Mark → Bool = λ (one : Mark). list_all (λ (other : Mark). nat_le one.id.number other.id.number) (x ∷ marks) in
-    let fails : test found.one ≡ false = none_found test (x ∷ marks) found.one none found.listed in
-    let passes : test found.one ≡ true = all_pass (λ (other : Mark). nat_le found.one.id.number other.id.number) (x ∷ marks) (λ other has. in_order found.one.id.number other.id.number (found.least other has)) in
+    let fails : test found.one ≡ false = find_none test (x ∷ marks) found.one none found.listed in
+    let passes : test found.one ≡ true = among_all (λ (other : Mark). nat_le found.one.id.number other.id.number) (x ∷ marks) (λ other has. in_order found.one.id.number other.id.number (found.least other has)) in
     let no : true ≡ false = sym passes ∙ fails in
     cc
 
 at_length : (marks : List Mark) (a : Mark) (length : Length) → Among marks a → a.length ≡ length → Among (filter (λ (one : Mark). one.length.mm == length.mm) marks) a
 at_length marks a length there same =
-    among_filter (λ (one : Mark). one.length.mm == length.mm) marks a there (ap (λ (l : Length). l.mm == length.mm) same ∙ number_itself length.mm)
+    among_filter (λ (one : Mark). one.length.mm == length.mm) marks a there (ap (λ (l : Length). l.mm == length.mm) same ∙ equal_itself length.mm)
 
 shares : (one : TempItem) (marks : List Mark) (a mark : Mark) → in_the_way one (filter (λ (other : Mark). other.length.mm == item_length one) marks) ≡ None → item_mark one ≡ Some mark
     → Among marks a → a.length ≡ mark.length → (a.divides ≡ false) × (mark.divides ≡ false)
@@ -92,7 +94,7 @@ shares (item.Cut id segment at is_open) marks a mark free is there same =
 shares (item.Clamp id segment at) marks a mark free is there same =
     let own : at ≡ mark.length = ap (λ (m : Mark). m.length) (same_Some _ mark is) in
     let clamp : false ≡ mark.divides = ap (λ (m : Mark). m.divides) (same_Some _ mark is) in
-    (none_found (λ (other : Mark). other.divides) (filter (λ (other : Mark). other.length.mm == at.mm) marks) a free (at_length marks a at there (same ∙ sym own)), sym clamp)
+    (find_none (λ (other : Mark). other.divides) (filter (λ (other : Mark). other.length.mm == at.mm) marks) a free (at_length marks a at there (same ∙ sym own)), sym clamp)
 shares (item.Jumper id first second phases is_open) marks a mark free is there same = absurd cc
 shares (item.Ground id at phases) marks a mark free is there same = absurd cc
 
@@ -103,7 +105,7 @@ apart_marks : (m : List Statement) (o : Overlay) (x : ℕ) (one : TempItem) → 
 apart_marks m o x one can apart = subst AreApart (sym (marks_more m o x one)) (elim (new_marks_are x one) [
   | inl none ↦ subst (λ (marks : List Mark). AreApart (marks_on m o x ++ marks)) (sym none) (subst AreApart (sym (append-nil (marks_on m o x))) apart)
   | inr (mark, is, own) ↦ subst (λ (marks : List Mark). AreApart (marks_on m o x ++ marks)) (sym is)
-      (pairs_joined Shares (marks_on m o x) (mark ∷ []) apart (pairs_one Shares mark) (λ a b here there. elim there [
+      (pairs_append Shares (marks_on m o x) (mark ∷ []) apart (pairs_one Shares mark) (λ a b here there. elim there [
         | inl same ↦ subst (Shares a) same
             (shares one (marks_on m o x) a mark (if_some (λ (x : ℕ). in_the_way one (marks_at m o x (item_length one)) ≡ None) (item_segment_number one) x own.on can.free) own.mark here)
         | inr none ↦ absurd none

@@ -6,9 +6,6 @@ use Rattle.cim_words.specs.Limits.{most_at_place}
 use Rattle.cim_words.specs.declared.identifier.Id.{Id}
 use Rattle.cim_words.specs.declared.statement.Statement.{Statement}
 use Rattle.cim_model.specs.Live.{is_place, real_terms_at, terms_at}
-use Rattle.cim_model.proofs.ListMembers.{Among, among_any, among_left, any_among}
-use Rattle.cim_model.proofs.Runs.{not_true, number_itself, same_number}
-use Rattle.cim_model.proofs.SaidLemmas.{both_left}
 use Rattle.room_words.specs.Items.{anchors, side, item_number, item_terms_at, makes, term_in}
 use Rattle.room_words.specs.Overlay.{item_of}
 use Rattle.room_words.specs.Terms.{same_anchor}
@@ -19,10 +16,15 @@ use Rattle.room_words.specs.declared.items.TempItem.TheVariants as item
 use Rattle.room_words.specs.declared.overlay.Overlay.{Overlay}
 use Rattle.room_words.specs.declared.term.Term.{Term}
 use Rattle.act_laws.proofs.Makers.{maker_number}
-use Rattle.act_laws.proofs.Lists.{none_found}
 use Rattle.act_laws.proofs.Passed.{CanBePlaced}
 use Rattle.act_laws.proofs.Still.{Takes}
 use Rattle.act_laws.proofs.PlacedMarks.{with_item}
+use Rattle.plain_laws.proofs.Members.{Among, among_left}
+use Rattle.plain_laws.proofs.Numbers.{equal_itself}
+use Rattle.plain_laws.proofs.Options.{find_none}
+use Rattle.plain_laws.proofs.Tests.{among_any, any_among}
+use Rattle.plain_laws.proofs.Truth.{and_first}
+use Rattle.std.proofs.lemmas.Bool.{false_from_ne_true, eqb-true}
 
 -- ---- places: those that there were
 
@@ -36,15 +38,15 @@ still_place m o one (anchor.Side id number) is =
 no_maker : (o : Overlay) (id : Id) (place : Id) (number : ℕ) → item_of o id.number ≡ None → list_any (makes (anchor.Side place number)) o.items ≡ true → id.number ≡ place.number → ⊥
 no_maker o id place number fresh made same =
     let maker = any_among (makes (anchor.Side place number)) o.items made in
-    let other : (item_number maker.0 == id.number) ≡ false = none_found (λ (one : TempItem). item_number one == id.number) o.items maker.0 fresh maker.1 in
-    let its : (item_number maker.0 == id.number) ≡ true = ap (λ (n : ℕ). n == id.number) (maker_number maker.0 place number maker.2 ∙ sym same) ∙ number_itself id.number in
+    let other : (item_number maker.0 == id.number) ≡ false = find_none (λ (one : TempItem). item_number one == id.number) o.items maker.0 fresh maker.1 in
+    let its : (item_number maker.0 == id.number) ≡ true = ap (λ (n : ℕ). n == id.number) (maker_number maker.0 place number maker.2 ∙ sym same) ∙ equal_itself id.number in
     let no : true ≡ false = sym its ∙ other in
     cc
 
 not_own : (m : List Statement) (o : Overlay) (id : Id) (number : ℕ) (place : Anchor) → item_of o id.number ≡ None → is_place m o place ≡ true → same_anchor (anchor.Side id number) place ≡ false
 not_own m o id number (anchor.Node n) fresh is = refl
 not_own m o id number (anchor.Side place part) fresh is =
-    not_true (id.number == place.number && number == part) (λ own. no_maker o id place part fresh is (same_number id.number place.number (both_left (id.number == place.number) (number == part) own)))
+    false_from_ne_true (id.number == place.number && number == part) (λ own. no_maker o id place part fresh is (eqb-true id.number place.number (and_first (id.number == place.number) (number == part) own)))
 
 -- ---- terminals
 

@@ -11,16 +11,16 @@ use Rattle.cim_model.specs.Effects.{with_position, without_position}
 use Rattle.cim_model.specs.Live.{is_place}
 use Rattle.cim_model.specs.Model.{is_of}
 use Rattle.cim_model.specs.Stands.{ItemStands, PositionStands, Stands}
-use Rattle.cim_model.proofs.ListMembers.{among_contained, among_either, contains_among, filter_among, filter_passes}
-use Rattle.cim_model.proofs.Pairs.{pairs_map}
 use Rattle.room_words.specs.Overlay.{position_number}
 use Rattle.room_words.specs.declared.anchor.Anchor.{Anchor}
 use Rattle.room_words.specs.declared.anchor.Anchor.TheVariants as anchor
 use Rattle.room_words.specs.declared.items.TempItem.{TempItem}
 use Rattle.room_words.specs.declared.overlay.Overlay.{Overlay}
 use Rattle.room_words.specs.declared.overlay.Position.{Position}
-use Rattle.act_laws.proofs.Lists.{all_of, pairs_from_map, pairs_joined}
 use Rattle.act_laws.proofs.Still.{still}
+use Rattle.plain_laws.proofs.Each.{all_from_among}
+use Rattle.plain_laws.proofs.Members.{among_contained, among_either, contains_among, filter_among, among_filter_passes}
+use Rattle.plain_laws.proofs.Pairs.{pairs_map, pairs_read, pairs_append}
 
 abbrev pub in_force : Overlay → List Position → Overlay
 in_force o positions = record { items = o.items; positions = positions }
@@ -55,7 +55,7 @@ abbrev Below : Position → Position → Type 0
 Below a b = position_number a < position_number b
 
 ascending : (positions : List Position) → IsStrictlyIncreasing (map position_number positions) → AllPairs Below positions
-ascending positions ascend = pairs_from_map (λ (a b : ℕ). a < b) position_number positions (AllPairs-from_increasing (map position_number positions) ascend)
+ascending positions ascend = pairs_read (λ (a b : ℕ). a < b) position_number positions (AllPairs-from_increasing (map position_number positions) ascend)
 
 ascend_by : (numbers : List ℕ) → AllPairs (λ (a b : ℕ). a < b) numbers → IsStrictlyIncreasing numbers
 ascend_by numbers pairs k below = pairs k (k + 1) 0 (omega arith) below
@@ -79,15 +79,15 @@ put switch is_open = record { switch = switch; is_open = is_open }
 
 put_ascends : (switch : Id) (is_open : Bool) (positions : List Position) → AllPairs Below positions → AllPairs Below (with_position switch is_open positions)
 put_ascends switch is_open positions pairs =
-    pairs_joined Below (filter (lesser switch) positions) (put switch is_open ∷ filter (greater switch) positions) (AllPairs-filter Below (lesser switch) positions pairs)
+    pairs_append Below (filter (lesser switch) positions) (put switch is_open ∷ filter (greater switch) positions) (AllPairs-filter Below (lesser switch) positions pairs)
     (AllPairs-cons Below (put switch is_open) (filter (greater switch) positions)
-    (all_of (Below (put switch is_open)) (filter (greater switch) positions) (λ b there. under switch.number (position_number b) (filter_passes (greater switch) positions b there)))
+    (all_from_among (Below (put switch is_open)) (filter (greater switch) positions) (λ b there. under switch.number (position_number b) (among_filter_passes (greater switch) positions b there)))
     (AllPairs-filter Below (greater switch) positions pairs))
     (λ a b here there.
-    let low : position_number a < switch.number = under (position_number a) switch.number (filter_passes (lesser switch) positions a here) in
+    let low : position_number a < switch.number = under (position_number a) switch.number (among_filter_passes (lesser switch) positions a here) in
     elim there [
       | inl same ↦ subst (λ (b : Position). position_number a < position_number b) same low
-      | inr later ↦ (let high : switch.number < position_number b = under switch.number (position_number b) (filter_passes (greater switch) positions b later) in omega (arith, low, high))
+      | inr later ↦ (let high : switch.number < position_number b = under switch.number (position_number b) (among_filter_passes (greater switch) positions b later) in omega (arith, low, high))
     ])
 
 put_each : (m : List Statement) (switch : Id) (is_open : Bool) (positions : List Position) → is_of m is_switch switch.number ≡ true

@@ -10,35 +10,37 @@ use Rattle.cim_model.specs.Live.{is_place, real_terms_at, terms_at}
 use Rattle.cim_model.specs.Marks.{is_item_on, item_mark, item_marks, marks_of, marks_on}
 use Rattle.cim_model.specs.Refusals.{is_anchored_at, is_side_of}
 use Rattle.cim_model.specs.Stands.{Stands}
-use Rattle.cim_model.proofs.ListMembers.{Among, among_any, among_contained, among_filter, any_among, contains_among, filter_among}
-use Rattle.cim_model.proofs.Pairs.{pairs_map}
 use Rattle.room_words.specs.Items.{anchors, item_number, item_terms_at, makes}
 use Rattle.room_words.specs.declared.anchor.Anchor.{Anchor}
 use Rattle.room_words.specs.declared.anchor.Anchor.TheVariants as anchor
 use Rattle.room_words.specs.declared.items.TempItem.{TempItem}
 use Rattle.room_words.specs.declared.overlay.Overlay.{Overlay}
 use Rattle.segment_cuts.specs.declared.mark.Mark.{Mark}
-use Rattle.act_laws.proofs.Lists.{Part, any_fails, flat_length, none_found, pairs_from_map, part_after, part_filter, part_filter_map, part_filtered, part_length, part_pairs}
 use Rattle.act_laws.proofs.Makers.{maker_number}
 use Rattle.act_laws.proofs.Still.{Bears, Takes, still}
+use Rattle.plain_laws.proofs.Members.{Among, among_contained, among_filter, contains_among, filter_among}
+use Rattle.plain_laws.proofs.Options.{find_none}
+use Rattle.plain_laws.proofs.Pairs.{pairs_map, pairs_read}
+use Rattle.plain_laws.proofs.Sublists.{IsSublist, sublist_flat_length, sublist_after, sublist_filter, sublist_filter_map, sublist_filtered, sublist_length, sublist_pairs}
+use Rattle.plain_laws.proofs.Tests.{among_any, any_among, none_among}
 
 abbrev pub but_item : Overlay → ℕ → Overlay
 but_item o x = record { items = without_item x o.items; positions = o.positions }
 
-rest_part : (o : Overlay) (x : ℕ) → Part (without_item x o.items) o.items
-rest_part o x = part_filter (λ (one : TempItem). not (item_number one == x)) o.items
+rest_part : (o : Overlay) (x : ℕ) → IsSublist (without_item x o.items) o.items
+rest_part o x = sublist_filter (λ (one : TempItem). not (item_number one == x)) o.items
 
 -- ---- marks: some of those that were there
 
-marks_part : (m : List Statement) (o : Overlay) (x y : ℕ) → Part (marks_on m (but_item o x) y) (marks_on m o y)
+marks_part : (m : List Statement) (o : Overlay) (x y : ℕ) → IsSublist (marks_on m (but_item o x) y) (marks_on m o y)
 marks_part m o x y =
-    part_after (marks_of m y) (item_marks (but_item o x) y) (item_marks o y)
-    (part_filter_map item_mark (filter (is_item_on y) (without_item x o.items)) (filter (is_item_on y) o.items) (part_filtered (is_item_on y) (without_item x o.items) o.items (rest_part o x)))
+    sublist_after (marks_of m y) (item_marks (but_item o x) y) (item_marks o y)
+    (sublist_filter_map item_mark (filter (is_item_on y) (without_item x o.items)) (filter (is_item_on y) o.items) (sublist_filtered (is_item_on y) (without_item x o.items) o.items (rest_part o x)))
 
 bears : (m : List Statement) (o : Overlay) (x : ℕ) → Bears m o (but_item o x)
 bears m o x = record {
-  few = λ y few. let less = part_length (marks_on m (but_item o x) y) (marks_on m o y) (marks_part m o x y) in omega (arith, few, less);
-  apart = λ y apart. part_pairs (λ (a b : Mark). a.length ≡ b.length → (a.divides ≡ false) × (b.divides ≡ false)) (marks_on m (but_item o x) y) (marks_on m o y) (marks_part m o x y) apart;
+  few = λ y few. let less = sublist_length (marks_on m (but_item o x) y) (marks_on m o y) (marks_part m o x y) in omega (arith, few, less);
+  apart = λ y apart. sublist_pairs (λ (a b : Mark). a.length ≡ b.length → (a.divides ≡ false) × (b.divides ≡ false)) (marks_on m (but_item o x) y) (marks_on m o y) (marks_part m o x y) apart;
 }
 
 -- ---- places: those that there were, but for the sides of the item, and no more terminals at each
@@ -52,7 +54,7 @@ still_place m o x (anchor.Side id number) none is =
 
 less_terms : (m : List Statement) (o : Overlay) (x : ℕ) (place : Anchor) → length (terms_at m (but_item o x) place) ≤ length (terms_at m o place)
 less_terms m o x place =
-    let less = flat_length (item_terms_at place) (without_item x o.items) o.items (rest_part o x) in
+    let less = sublist_flat_length (item_terms_at place) (without_item x o.items) o.items (rest_part o x) in
     let before = length-append (real_terms_at m place) (flat_map (item_terms_at place) o.items) in
     let after = length-append (real_terms_at m place) (flat_map (item_terms_at place) (without_item x o.items)) in
     omega (arith, less, before, after)
@@ -70,14 +72,14 @@ was o x one there = filter_among (λ (one : TempItem). not (item_number one == x
 
 -- none of them is anchored at a side of the item
 no_side : (o : Overlay) (x : ℕ) (one : TempItem) (place : Anchor) → find (is_anchored_at x) o.items ≡ None → Among o.items one → Contains (anchors one) place → is_side_of x place ≡ false
-no_side o x one place none there at = any_fails (is_side_of x) (anchors one) place (none_found (is_anchored_at x) o.items one none there) (among_contained (anchors one) place at)
+no_side o x one place none there at = none_among (is_side_of x) (anchors one) place (find_none (is_anchored_at x) o.items one none there) (among_contained (anchors one) place at)
 
 identifiers : (o : Overlay) (x : ℕ) → IsDistinct nat_eq (map item_number o.items) → IsDistinct nat_eq (map item_number (without_item x o.items))
 identifiers o x distinct =
     IsDistinct-from_AllPairs Decides-eqb (map item_number (without_item x o.items))
     (pairs_map (λ (a b : ℕ). a ≢ b) item_number (without_item x o.items)
     (AllPairs-filter (λ (a b : TempItem). item_number a ≢ item_number b) (λ (one : TempItem). not (item_number one == x)) o.items
-    (pairs_from_map (λ (a b : ℕ). a ≢ b) item_number o.items (AllPairs-from_IsDistinct Decides-eqb (map item_number o.items) distinct))))
+    (pairs_read (λ (a b : ℕ). a ≢ b) item_number o.items (AllPairs-from_IsDistinct Decides-eqb (map item_number o.items) distinct))))
 
 pub removed_overlay : (m : List Statement) (o : Overlay) (x : ℕ) → Stands m o → find (is_anchored_at x) o.items ≡ None → Stands m (but_item o x)
 removed_overlay m o x stands none = record {
@@ -89,5 +91,5 @@ removed_overlay m o x stands none = record {
   switches = stands.switches;
   jumpers = λ one there. stands.jumpers one (contains_among o.items one (was o x one there));
   phased = λ one there. stands.phased one (contains_among o.items one (was o x one there));
-  few = let less = part_length (without_item x o.items) o.items (rest_part o x) in let few = stands.few in omega (arith, less, few);
+  few = let less = sublist_length (without_item x o.items) o.items (rest_part o x) in let few = stands.few in omega (arith, less, few);
 }

@@ -9,7 +9,7 @@ use Rattle.room_words.specs.Items.{anchors}
 use Rattle.room_words.specs.declared.anchor.Anchor.{Anchor}
 use Rattle.room_words.specs.declared.items.TempItem.{TempItem}
 use Rattle.room_words.specs.declared.overlay.Overlay.{Overlay}
-use Rattle.act_laws.proofs.Lists.{some_follows}
+use Rattle.plain_laws.proofs.Options.{if_some_follows}
 
 -- each segment that bore its marks bears those of another overlay
 pub record Bears (m : List Statement) (o p : Overlay) : Type 0 where
@@ -28,8 +28,8 @@ still m o p one bears takes stands =
       identifier = stands.identifier;
       segment = stands.segment;
       lies = stands.lies;
-      few = some_follows (λ (x : ℕ). length (marks_on m o x) ≤ most_marks) (λ (x : ℕ). length (marks_on m p x) ≤ most_marks) (item_segment_number one) bears.few stands.few;
-      apart = some_follows (λ (x : ℕ). AreApart (marks_on m o x)) (λ (x : ℕ). AreApart (marks_on m p x)) (item_segment_number one) bears.apart stands.apart;
+      few = if_some_follows (λ (x : ℕ). length (marks_on m o x) ≤ most_marks) (λ (x : ℕ). length (marks_on m p x) ≤ most_marks) (item_segment_number one) bears.few stands.few;
+      apart = if_some_follows (λ (x : ℕ). AreApart (marks_on m o x)) (λ (x : ℕ). AreApart (marks_on m p x)) (item_segment_number one) bears.apart stands.apart;
       places = λ place there. (each place there).is;
       crowds = λ place there. (each place there).few;
     }

@@ -10,7 +10,6 @@ use Rattle.cim_model.specs.Effects.{turned, with_turned}
 use Rattle.cim_model.specs.Live.{is_place, real_terms_at}
 use Rattle.cim_model.specs.Marks.{is_item_on, item_mark, marks_of, marks_on}
 use Rattle.cim_model.specs.Stands.{AreApart, ItemStands, Stands}
-use Rattle.cim_model.proofs.ListMembers.{among_contained, contains_among, map_among}
 use Rattle.room_words.specs.Items.{anchors, item_number, item_phases, item_terms_at, makes}
 use Rattle.room_words.specs.Terms.{same_anchor}
 use Rattle.room_words.specs.declared.anchor.Anchor.{Anchor}
@@ -20,6 +19,7 @@ use Rattle.room_words.specs.declared.items.TempItem.TheVariants as item
 use Rattle.room_words.specs.declared.overlay.Overlay.{Overlay}
 use Rattle.segment_cuts.specs.declared.mark.Mark.{Mark}
 use Rattle.act_laws.proofs.Still.{Bears, Takes, still}
+use Rattle.plain_laws.proofs.Members.{among_contained, contains_among, map_among}
 
 abbrev pub with_turn : Overlay → ℕ → Bool → Overlay
 with_turn o x is_open = record { items = with_turned x is_open o.items; positions = o.positions }

@@ -141,6 +141,15 @@ impl Random {
     }
 }
 
+/// The network, looked up.
+fn index_of(alloc: Global) -> Result<Index, Fail> {
+    let set = statements(alloc)?;
+    match first_break(alloc, &set)? {
+        Some(found) => Err(Fail::new(found.rule)),
+        None => Ok(Index::build(alloc, &set)?),
+    }
+}
+
 /// The graph of the network under an overlay.
 fn graph_of<L: Ledger>(
     alloc: Global,
@@ -228,9 +237,7 @@ fn is_same(overlay: &Overlay, plain: &Plain) -> bool {
 #[test]
 fn answers_as_the_plain_program(rt: HostRuntime) -> Result<(), Fail> {
     let alloc = rt.alloc();
-    let set = statements(alloc)?;
-    assert!(rt; first_break(alloc, &set)?.is_none());
-    let index = Index::build(alloc, &set)?;
+    let index = index_of(alloc)?;
     let mut overlay = Overlay::empty(alloc);
     let mut plain = Plain {
         items: Vec::new(alloc),

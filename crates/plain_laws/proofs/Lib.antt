@@ -2,11 +2,13 @@ pub mod Counts
 pub mod Each
 pub mod Filters
 pub mod Fronts
+pub mod Least
 pub mod Members
 pub mod Numbers
 pub mod Options
 pub mod Pairs
 pub mod Parts
 pub mod Sorted
+pub mod Sublists
 pub mod Tests
 pub mod Truth

@@ -1,6 +1,6 @@
 -- What may be missing, and the first of a list that passes a test. More of these laws stand in the standard library, in Option.
-use Rattle.std.proofs.Common.{◌≡◌, ℕ, ◌+◌, inl, inr, List, [], ◌∷◌, length, Bool, true, false, not, cond, nat_lt, Option, Some, None, IsTrue, IfSome, is_none, find, position, if◌then◌else◌, refl, ap, ap₂, ◌∙◌, subst}
-use Rattle.std.specs.List.{position_or_len}
+use Rattle.std.proofs.Common.{◌≡◌, ℕ, ◌+◌, inl, inr, List, [], ◌∷◌, length, Bool, true, false, not, cond, nat_lt, Option, Some, None, IsTrue, IfSome, is_none, is_some, option_map, find, position, if◌then◌else◌, refl, ap, ap₂, ◌∙◌, subst}
+use Rattle.std.specs.List.{position_from, position_or_len}
 use Rattle.std.proofs.lemmas.Option.{same_Some}
 use Rattle.std.specs.Prelude.{Contains}
 use Rattle.plain_laws.proofs.Members.{Among, contains_among}
@@ -55,3 +55,39 @@ first_same f h agree (x ∷ xs) = ap₂ (λ (b : Bool) (n : ℕ). cond (not b) (
 -- tests that agree find the first at one index
 pub position_same : {X : Type 0} (f h : X → Bool) → ((x : X) → f x ≡ h x) → (xs : List X) → position f xs ≡ position h xs
 position_same f h agree xs = ap (λ (n : ℕ). cond (nat_lt n (length xs)) (Some n) None) (first_same f h agree xs)
+
+-- where nothing is found, no element passes
+first_fails : {X : Type 0} (y : X) (rest : Option X) (b : Bool) → cond b (Some y) rest ≡ None → (b ≡ false) × (rest ≡ None)
+first_fails y rest true none = absurd cc
+first_fails y rest false none = (refl, none)
+
+pub find_none : {X : Type 0} (p : X → Bool) (xs : List X) (x : X) → find p xs ≡ None → Among xs x → p x ≡ false
+find_none p [] x none there = absurd there
+find_none p (y ∷ xs) x none (inl is) = subst (λ (z : _). p z ≡ false) is (first_fails y (find p xs) (p y) none).0
+find_none p (y ∷ xs) x none (inr there) = find_none p xs x (first_fails y (find p xs) (p y) none).1 there
+
+first_index_fails : (k : ℕ) (rest : Option ℕ) (b : Bool) → cond b (Some k) rest ≡ None → (b ≡ false) × (rest ≡ None)
+first_index_fails k rest true none = absurd cc
+first_index_fails k rest false none = (refl, none)
+
+pub position_none : {X : Type 0} (p : X → Bool) (k : ℕ) (xs : List X) (x : X) → position_from p k xs ≡ None → Among xs x → p x ≡ false
+position_none p k [] x none there = absurd there
+position_none p k (y ∷ xs) x none (inl is) = subst (λ (z : _). p z ≡ false) is (first_index_fails k (position_from p (k + 1) xs) (p y) none).0
+position_none p k (y ∷ xs) x none (inr there) = position_none p (k + 1) xs x (first_index_fails k (position_from p (k + 1) xs) (p y) none).1 there
+
+-- what holds where there is something
+pub if_some_follows : {X : Type 0} (P Q : X → Type 0) (found : Option X) → ((x : X) → P x → Q x) → IfSome found P → IfSome found Q
+if_some_follows P Q None follows is = tt
+if_some_follows P Q (Some x) follows is = follows x is
+
+pub if_some_always : {X : Type 0} (P : X → Type 0) (found : Option X) → ((x : X) → P x) → IfSome found P
+if_some_always P None always = tt
+if_some_always P (Some x) always = always x
+
+pub none_from_false : {X : Type 0} (found : Option X) → is_some found ≡ false → found ≡ None
+none_from_false None is = refl
+none_from_false (Some x) is = absurd cc
+
+pub map_none : {X Y : Type 0} (f : X → Y) (found : Option X) → option_map f found ≡ None → found ≡ None
+map_none f None none = refl
+map_none f (Some x) none = absurd cc

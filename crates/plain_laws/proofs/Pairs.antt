@@ -109,3 +109,7 @@ distinct_append same (x ∷ xs) ys first second across = (
 pub distinct_filter : {X : Type 0} (same : X → X → Bool) (p : X → Bool) (xs : List X) → IsDistinct same xs → IsDistinct same (filter p xs)
 distinct_filter same p xs distinct =
     IsDistinct-from_apart same (filter p xs) (AllPairs-filter (λ x y. same x y ≡ false) p xs (λ i j d less below. apart_from_distinct same xs i j d distinct less below))
+
+-- one element is no two
+pub pairs_one : {X : Type 0} (R : X → X → Type 0) (x : X) → AllPairs R (x ∷ [])
+pairs_one R x i j d less below = absurd (omega arith)

@@ -110,3 +110,12 @@ all_among p (y ∷ xs) all x (inr there) = all_among p xs (and_second (p y) (lis
 pub among_all : {X : Type 0} (p : X → Bool) (xs : List X) → ((x : X) → Among xs x → p x ≡ true) → list_all p xs ≡ true
 among_all p [] each = refl
 among_all p (y ∷ xs) each = and_from (p y) (list_all p xs) (each y (inl refl)) (among_all p xs (λ x there. each x (inr there)))
+
+-- where no element passes, none does
+pub among_none : {X : Type 0} (p : X → Bool) (xs : List X) → ((x : X) → Among xs x → p x ≡ false) → list_any p xs ≡ false
+among_none p [] each = refl
+among_none p (y ∷ xs) each = neither_passes (p y) (list_any p xs) (each y (inl refl)) (among_none p xs (λ x there. each x (inr there)))
+  where
+    neither_passes : (a b : Bool) → a ≡ false → b ≡ false → (a || b) ≡ false
+    neither_passes true b first rest = first
+    neither_passes false b first rest = rest
