@@ -1,6 +1,6 @@
 -- What an accepted act passes: none of the fourteen refusals holds, and what that says of an item that is placed.
-use Rattle.std.proofs.Common.{◌≡◌, ℕ, ◌+◌, ◌<◌, ◌≤◌, List, length, Bool, true, false, not, ◌&&◌, nat_le, nat_lt, Option, Some, None, IfSome, is_some, option_map, refl, arith}
-use Rattle.std.specs.List.{IsDistinct, position_from}
+use Rattle.std.proofs.Common.{◌≡◌, ℕ, ◌+◌, ◌<◌, ◌≤◌, List, [], ◌∷◌, length, Bool, true, false, not, ◌&&◌, nat_le, nat_lt, Option, Some, None, IfSome, is_some, option_map, refl, arith}
+use Rattle.std.specs.List.{AllByRecursion, filter_map, IsDistinct, position_from}
 use Rattle.std.specs.Option.{option_map_or}
 use Rattle.std.proofs.lemmas.Bool.Decides.{nat_tests}
 use Rattle.cim_words.specs.Groups.{is_segment}

@@ -1,4 +1,4 @@
-//! The places of all cuts and clamps along their segments, gathered in order and searched by halves.
+//! The places of all cuts and clamps along their segments, gathered in order and searched by binary search.
 
 ghost use Rattle.std.specs.Prelude.{◌≡◌, [], IfOk, OnOk, List, map, ◌++◌};
 ghost use Rattle.std.specs.List.{list_any};

@@ -99,7 +99,7 @@ module _ (m : List Statement) (faultless : IsFaultless m) (x : ℕ) where
       ∙ ap (λ (ts : List ℕ). filter leading (terminals_of m x) ++ ts) (filter_agree _ _ other_taken (naming m property.conducting_equipment x) ∙ sym (filter_twice (λ t. not (leading t)) (is_of m is_terminal) (naming m property.conducting_equipment x)))
       ∙ sym (terminals_parted m faultless x)
 
-  -- the terminals 1 of what has sides, and behind them all others
+  -- the terminals 1 of what has sides, and after them all others
   pub terminals_gathered : (subjects : List (Id × Subject)) (none first second : List (Id × List Id)) → subjects ≡ records m → none ≡ [] → members first x ≡ members none x ++ map as_id (gathered FirstTerminals subjects m x)
       → members second x ≡ members first x ++ map as_id (gathered OtherTerminals subjects m x) → members second x ≡ map as_id (terminals_by_side m x)
   terminals_gathered subjects none first second are empty one two =

@@ -20,7 +20,7 @@ use Rattle.cim_records.specs.declared.subject.Subject.{Subject}
 use Rattle.cim_model.proofs.SubjectLists.{listed_as_subject}
 use Rattle.cim_records.proofs.Known.{found_map}
 
--- ---- the subjects of a list and a run behind it
+-- ---- the subjects of a list and a run after it
 
 abbrev AllAbout : ℕ → List Statement → Type 0
 AllAbout x run = AllByRecursion (λ t. is_about x t ≡ true) run

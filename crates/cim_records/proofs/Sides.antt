@@ -26,7 +26,7 @@ use Rattle.cim_model.proofs.Classes.{is_of_by_class}
 use Rattle.cim_model.proofs.FaultlessSubjects.{empty_map, breaks_no_rule}
 use Rattle.cim_model.proofs.SaidLemmas.{of_class_is_subject}
 
--- those that pass a test, and behind them the others
+-- those that pass a test, and after them the others
 abbrev pub parted : (ℕ → Bool) → List ℕ → List ℕ
 parted test ts = filter test ts ++ filter (λ t. not (test t)) ts
 

@@ -29,7 +29,8 @@ impl Gathering {
         ensures { result ≡ spec.property_of self }
     {
         match self {
-            Gathering::FirstTerminals | Gathering::OtherTerminals => KnownProp::CONDUCTING_EQUIPMENT,
+            Gathering::FirstTerminals | Gathering::OtherTerminals =>
+                KnownProp::CONDUCTING_EQUIPMENT,
             Gathering::NodeTerminals => KnownProp::CONNECTIVITY_NODE,
         }
     }

@@ -33,7 +33,7 @@ impl<T: Copy> Groups<T> {
         }
     }
 
-    /// Puts a member behind the others of its list.
+    /// Appends a member to its list.
     pub(crate) fn add(&mut self, key: Id, member: T) -> Result<(), NoMemory>
         ensures { OnOk result ((x : ℕ) → members self.new x ≡ (if x == key.number then members self.old x ++ member ∷ [] else members self.old x)) }
     {
@@ -57,7 +57,7 @@ impl<T: Copy> Groups<T> {
     }
 }
 
-/// Puts a member behind the others.
+/// Appends a member.
 fn put<T: Copy>(list: &mut Listed<T>, member: T) -> Result<(), NoMemory>
     ensures { OnOk result (list.new ≡ list.old ++ member ∷ []) }
 {

@@ -6,8 +6,8 @@ mod groups;
 mod index;
 mod part_phases;
 mod queries;
-mod run;
 mod subject;
+mod subject_statements;
 mod subjects;
 mod tables;
 

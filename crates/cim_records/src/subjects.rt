@@ -4,8 +4,8 @@ ghost use Rattle.std.specs.Prelude.{◌≡◌, IfOk};
 ghost use Rattle.cim_records.specs.Found.{found, known_of};
 ghost use Rattle.cim_records.specs.Subject.{records};
 
-use crate::run::read_subject;
 use crate::subject::Subject;
+use crate::subject_statements::read_subject;
 use cim_words::{Id, NoMemory};
 use indexmap::IndexMap;
 use indexmap::map::Iter;

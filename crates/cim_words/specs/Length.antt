@@ -24,14 +24,14 @@ digits_at text = take_while is_digit text
 abbrev pub after_digits : List ℕ → List ℕ
 after_digits text = drop (length (digits_at text)) text
 
--- the digits behind a point at the front, and what follows both
+-- the digits after a point at the front, and what follows both
 abbrev pub fraction_at : List ℕ → List ℕ
 fraction_at text = if begins_with point text then digits_at (drop 1 text) else []
 
 abbrev pub after_fraction : List ℕ → List ℕ
 after_fraction text = if begins_with point text then after_digits (drop 1 text) else text
 
--- a text is an optional sign, these digits, a point with these digits behind it or neither, and what ends it
+-- a text is an optional sign, these digits, a point with these digits after it or neither, and what ends it
 pub record IsNumberSplit (text whole fraction ending : List ℕ) : Type 0 where
   pub whole_digits : whole ≡ digits_at (without_sign text)
   pub fraction_digits : fraction ≡ fraction_at (after_digits (without_sign text))
@@ -80,7 +80,7 @@ millimetres negative number up down =
     else if nat_le (number * 10 ^ up) (most_metres * 10 ^ down) then Some (number * 10 ^ (up + 3) / 10 ^ down)
     else None
 
--- the same, of these digits with so many of them behind the point, and a power of ten
+-- the same, of these digits with so many of them after the point, and a power of ten
 abbrev pub scaled : Bool → List ℕ → ℕ → Option Scale → Option ℕ
 scaled negative digits behind None = None
 scaled negative digits behind (Some scale) =

@@ -32,7 +32,7 @@ hex_digit d = slice_index (codes "0123456789ABCDEF") d
 unfoldable pub iri_spelling : ℕ → List ℕ
 iri_spelling b = if is_iri_character b then b ∷ [] else backslash ∷ codes "u00" ++ hex_digit (b / 16) ∷ hex_digit (b % 16) ∷ []
 
--- a byte of a literal: the quote, the backslash, LF and CR behind a backslash
+-- a byte of a literal: the quote, the backslash, LF and CR after a backslash
 unfoldable pub literal_spelling : ℕ → List ℕ
 literal_spelling b =
     if b == quote then backslash ∷ quote ∷ []

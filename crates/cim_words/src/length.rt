@@ -71,7 +71,7 @@ fn read_length(text: &[u8]) -> Option<u64>
     }
 }
 
-// The digits before and behind the point of a text, and what follows them.
+// The digits before and after the point of a text, and what follows them.
 fn split_number(text: &[u8]) -> (&[u8], &[u8], &[u8])
     ensures split { IsNumberSplit text.now result.0.now result.1.now result.2.now }
     ensures whole { IsTrue (list_all is_digit result.0.now) }
@@ -117,7 +117,7 @@ fn count_digits(text: &[u8]) -> usize
         .count()
 }
 
-// The digits behind a point at the front of a text, and what follows both.
+// The digits after a point at the front of a text, and what follows both.
 fn split_fraction(text: &[u8]) -> (&[u8], &[u8])
     ensures digits { result.0.now ≡ fraction_at text.now }
     ensures rest { result.1.now ≡ after_fraction text.now }
@@ -129,7 +129,7 @@ fn split_fraction(text: &[u8]) -> (&[u8], &[u8])
     }
 }
 
-// The number that the digits before and behind a point spell, where there are neither none nor too many.
+// The number that the digits before and after a point spell, where there are neither none nor too many.
 fn read_number(whole: &[u8], fraction: &[u8]) -> Option<u128>
     requires whole { IsTrue (list_all is_digit whole.now) }
     requires fraction { IsTrue (list_all is_digit fraction.now) }

@@ -70,7 +70,7 @@ impl<T> Listed<T> {
         &self.items[index]
     }
 
-    /// Puts an item behind the others, or hands it back.
+    /// Appends an item, or hands it back.
     pub fn push(&mut self, item: T) -> Result<(), (NoMemory, T)>
         ensures ok { OnOk result (self.new ≡ self.old ++ item ∷ []) }
         ensures err { IfErr result (λ refused. (self.new ≡ self.old) × (refused.1 ≡ item)) }

@@ -6,9 +6,8 @@ use Rattle.std.proofs.lemmas.Option.{same_Some, slice_get_within}
 use Rattle.cim_words.specs.Phases.{has_phase}
 use Rattle.cim_words.specs.declared.phases.Phase.{Phase}
 use Rattle.cim_words.specs.declared.phases.PhaseSet.{PhaseSet}
-use Rattle.feeder_trace.specs.Hub.{same_hub}
-use Rattle.feeder_trace.specs.Hubs.{HubsView, GoesOver, HasNumber, IsGone}
-use Rattle.feeder_trace.specs.Marks.{Joins}
+use Rattle.feeder_trace.specs.Hubs.{same_hub, HubsView, Visits, HasNumber, IsVisited}
+use Rattle.feeder_trace.specs.Visited.{Joins}
 use Rattle.feeder_trace.specs.declared.hub.Hub.{Hub}
 use Rattle.feeder_trace.specs.declared.hub.Hub.TheVariants.{Place, Section}
 use Rattle.feeder_trace.proofs.MarkLemmas.{slice_get-set_same, slice_get-set_other}
@@ -29,7 +28,7 @@ one_number v h k i at_h at_k =
     hub_exact h (get_or v.hubs i h) (position-Some (same_hub h) v.hubs i h at_h).1
     ∙ sym (hub_exact k (get_or v.hubs i h) (position-Some (same_hub k) v.hubs i h at_k).1)
 
--- nobody goes over again in a phase
+-- what was visited in a phase is not visited in it again
 left_is : (asked before left : Bool) → left ≡ (asked && not before) → left ≡ true → (asked ≡ true) × (before ≡ false)
 left_is true true left e h = cc
 left_is true false left e h = (refl, refl)
@@ -40,25 +39,25 @@ left_or true true left e h = inr refl
 left_or true false left e h = inl e
 left_or false before left e h = cc
 
-module _ (hub : Hub) (phases left before : PhaseSet) (v : HubsView) (i : ℕ) (at : HasNumber v hub i) (read : slice_get v.gone i ≡ Some before) (leaves : (p : Phase) → has_phase left p ≡ (has_phase phases p && not (has_phase before p))) where
-  was : (p : Phase) → IsGone v hub p → has_phase before p ≡ true
+module _ (hub : Hub) (phases left before : PhaseSet) (v : HubsView) (i : ℕ) (at : HasNumber v hub i) (read : slice_get v.visited i ≡ Some before) (leaves : (p : Phase) → has_phase left p ≡ (has_phase phases p && not (has_phase before p))) where
+  was : (p : Phase) → IsVisited v hub p → has_phase before p ≡ true
   was p (j, at_j, (held, read_j, holds)) =
       let one : j ≡ i = same_Some j i (sym at_j ∙ at) in
-      let same : held ≡ before = same_Some held before (sym read_j ∙ ap (slice_get v.gone) one ∙ read) in
+      let same : held ≡ before = same_Some held before (sym read_j ∙ ap (slice_get v.visited) one ∙ read) in
       subst (λ (q : PhaseSet). has_phase q p ≡ true) same holds
 
-  again : (p : Phase) → IsTrue (has_phase left p) → IsGone v hub p → ⊥
-  again p h gone = true≢false (sym (was p gone) ∙ (left_is (has_phase phases p) (has_phase before p) (has_phase left p) (leaves p) h).1)
+  again : (p : Phase) → IsTrue (has_phase left p) → IsVisited v hub p → ⊥
+  again p h visited = true≢false (sym (was p visited) ∙ (left_is (has_phase phases p) (has_phase before p) (has_phase left p) (leaves p) h).1)
 
-  others : (p : Phase) → IsTrue (has_phase phases p) → IsTrue (has_phase left p) ⊎ IsGone v hub p
+  others : (p : Phase) → IsTrue (has_phase phases p) → IsTrue (has_phase left p) ⊎ IsVisited v hub p
   others p h = ⊎_elim inl (λ b. inr (i, at, (before, read, b))) (left_or (has_phase phases p) (has_phase before p) (has_phase left p) (leaves p) h)
 
   -- something is left, and noted
-  pub goes_over : (gone : List PhaseSet) → Joins i before left v.gone gone → GoesOver hub phases left v (record { hubs = v.hubs; gone = gone })
-  goes_over gone joins =
-      let within : i < length v.gone = slice_get_within v.gone i before read in
-      let there : slice_get gone i ≡ Some joins.joined = ap (λ (sets : List PhaseSet). slice_get sets i) joins.is ∙ slice_get-set_same v.gone i joins.joined within in
-      let elsewhere : (j : ℕ) → (j ≡ i → ⊥) → slice_get gone j ≡ slice_get v.gone j = λ j apart. ap (λ (sets : List PhaseSet). slice_get sets j) joins.is ∙ slice_get-set_other v.gone i j joins.joined apart in
+  pub goes_over : (visited : List PhaseSet) → Joins i before left v.visited visited → Visits hub phases left v (record { hubs = v.hubs; visited = visited })
+  goes_over visited joins =
+      let within : i < length v.visited = slice_get_within v.visited i before read in
+      let there : slice_get visited i ≡ Some joins.joined = ap (λ (sets : List PhaseSet). slice_get sets i) joins.is ∙ slice_get-set_same v.visited i joins.joined within in
+      let elsewhere : (j : ℕ) → (j ≡ i → ⊥) → slice_get visited j ≡ slice_get v.visited j = λ j apart. ap (λ (sets : List PhaseSet). slice_get sets j) joins.is ∙ slice_get-set_other v.visited i j joins.joined apart in
       record {
         same_hubs = refl;
         asked = λ p h. (left_is (has_phase phases p) (has_phase before p) (has_phase left p) (leaves p) h).0;
@@ -67,13 +66,13 @@ module _ (hub : Hub) (phases left before : PhaseSet) (v : HubsView) (i : ℕ) (a
         noted = λ j p at_j h. (i, at, (joins.joined, there, joins.joins p ∙ or_right (has_phase before p) (has_phase left p) h));
         kept = λ other p (j, at_j, (held, read_j, holds)). ⊎_elim
             (λ same.
-            let is : held ≡ before = same_Some held before (sym read_j ∙ ap (slice_get v.gone) same ∙ read) in
-            (j, at_j, (joins.joined, ap (slice_get gone) same ∙ there, joins.joins p ∙ or_left (has_phase before p) (has_phase left p) (subst (λ (q : PhaseSet). has_phase q p ≡ true) is holds))))
+            let is : held ≡ before = same_Some held before (sym read_j ∙ ap (slice_get v.visited) same ∙ read) in
+            (j, at_j, (joins.joined, ap (slice_get visited) same ∙ there, joins.joins p ∙ or_left (has_phase before p) (has_phase left p) (subst (λ (q : PhaseSet). has_phase q p ≡ true) is holds))))
             (λ apart. (j, at_j, (held, elsewhere j apart ∙ read_j, holds)))
             (cases_eq j i);
         only = λ other p (j, at_j, (held, read_j, holds)). ⊎_elim
             (λ same.
-            let is : held ≡ joins.joined = same_Some held joins.joined (sym read_j ∙ ap (slice_get gone) same ∙ there) in
+            let is : held ≡ joins.joined = same_Some held joins.joined (sym read_j ∙ ap (slice_get visited) same ∙ there) in
             let both : (has_phase before p || has_phase left p) ≡ true = sym (joins.joins p) ∙ subst (λ (q : PhaseSet). has_phase q p ≡ true) is holds in
             let at_i : HasNumber v other i = subst (λ n. HasNumber v other n) same at_j in
             ⊎_elim

@@ -15,8 +15,7 @@ use Rattle.graph_pages.specs.declared.star.Spoke.{Spoke}
 use Rattle.graph_pages.specs.declared.star.Star.{Star}
 use Rattle.room_words.specs.declared.anchor.Anchor.{Anchor}
 use Rattle.indexmap.specs.IndexSet.{insert_key}
-use Rattle.feeder_trace.specs.Hub.{same_hub}
-use Rattle.feeder_trace.specs.HubsOf.{Adds, HasAll, IsHubOf, IsPlaceOf, IsSectionOf, section_count}
+use Rattle.feeder_trace.specs.Hubs.{same_hub, Adds, HasAll, IsHubOf, IsPlaceOf, IsSectionOf, section_count}
 use Rattle.feeder_trace.specs.declared.hub.Hub.{Hub}
 use Rattle.feeder_trace.specs.declared.hub.Hub.TheVariants.{Place, Section}
 use Rattle.feeder_trace.proofs.HubLemmas.{hub_exact}

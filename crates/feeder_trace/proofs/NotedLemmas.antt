@@ -11,9 +11,9 @@ use Rattle.cim_model.specs.Phases.{no_phases}
 use Rattle.cim_words.specs.Phases.{has_phase, has_no_phase}
 use Rattle.cim_words.specs.declared.phases.Phase.{Phase}
 use Rattle.cim_words.specs.declared.phases.PhaseSet.{PhaseSet}
-use Rattle.feeder_trace.specs.Marks.{IsSet}
+use Rattle.feeder_trace.specs.Visited.{IsSet}
 use Rattle.feeder_trace.specs.Noted.{AreNoted}
-use Rattle.feeder_trace.specs.declared.marks.Marks.TheInside.{Inside}
+use Rattle.feeder_trace.specs.declared.visited.Visited.TheInside.{Inside}
 use Rattle.feeder_trace.proofs.MarkLemmas.{slice_get-set_same, slice_get-set_other}
 use Rattle.feeder_trace.proofs.PhaseLemmas.{no_phase, filled, some_phase}
 

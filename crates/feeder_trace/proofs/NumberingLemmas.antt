@@ -157,7 +157,7 @@ module _ (g : GraphView) (stars : List Star) (terminals : List (Term × PhaseSet
   numbered_at : IsOwn terminals a
   numbered_at = own_star (star_of g a.term.owner.number) refl
 
--- all stars are gone over
+-- all stars are visited
 pub is_numbered : (g : GraphView) (stars : List Star) (terminals : List (Term × PhaseSet)) → ((x : ℕ) → star_in stars x ≡ star_of g x) → EntersStars g stars terminals → IsNumbered g terminals
 is_numbered g stars terminals same all = record { sound = all.true_to; complete = λ a point. numbered_at g stars terminals same all a point }
 

@@ -10,11 +10,10 @@ use Rattle.graph_pages.specs.Walks.{Line, line_of, place_at}
 use Rattle.room_words.specs.declared.term.Point.{Point}
 use Rattle.room_words.specs.declared.term.Term.{Term}
 use Rattle.room_words.specs.declared.anchor.Anchor.{Anchor}
-use Rattle.feeder_trace.specs.Hubs.{HubsView, GoesOver, IsGone}
+use Rattle.feeder_trace.specs.Hubs.{HubsView, Visits, IsVisited}
 use Rattle.feeder_trace.specs.Numbering.{IsOwn}
-use Rattle.feeder_trace.specs.Over.{AtHub, IsOver, StandsIn}
+use Rattle.feeder_trace.specs.Spread.{AtHub, IsOver, StandsIn, AmongMembers, AtPlaceOf, InSections}
 use Rattle.feeder_trace.specs.Search.{SearchView, IsMarked, IsPopped, IsSet, MarksAll}
-use Rattle.feeder_trace.specs.Spread.{AmongMembers, AtPlaceOf, InSections}
 use Rattle.feeder_trace.specs.declared.hub.Hub.{Hub}
 use Rattle.feeder_trace.specs.declared.hub.Hub.TheVariants.{Place, Section}
 use Rattle.feeder_trace.proofs.MarkLemmas.{marks_nothing, marks_as}
@@ -32,45 +31,45 @@ marks_rest may may' a b to from m = record {
   work = m.work;
 }
 
--- nothing was gone over, and more is marked
-pub over_begins : (g : GraphView) (hubs : HubsView) (v : SearchView) → ((hub : Hub) (p : Phase) → IsGone hubs hub p → ⊥) → IsOver g hubs v
-over_begins g hubs v none hub a gone stands own = absurd (none hub a.phase gone)
+-- nothing was visited, and more is marked
+pub over_begins : (g : GraphView) (hubs : HubsView) (v : SearchView) → ((hub : Hub) (p : Phase) → IsVisited hubs hub p → ⊥) → IsOver g hubs v
+over_begins g hubs v none hub a visited stands own = absurd (none hub a.phase visited)
 
 pub over_kept : (g : GraphView) (hubs : HubsView) (may : Point → Type 0) (a b : SearchView) → IsOver g hubs a → MarksAll may a b → IsOver g hubs b
-over_kept g hubs may a b over m hub x gone stands own = m.kept x (over hub x gone stands (subst (λ ts. IsOwn ts x) m.same_terminals own))
+over_kept g hubs may a b over m hub x visited stands own = m.kept x (over hub x visited stands (subst (λ ts. IsOwn ts x) m.same_terminals own))
 
 pub over_popped : (g : GraphView) (hubs : HubsView) (next : Term × PhaseSet) (a b : SearchView) → IsOver g hubs a → IsPopped next a b → IsOver g hubs b
-over_popped g hubs next a b over popped hub x gone stands own =
-    let (i, at, set) = over hub x gone stands (subst (λ ts. IsOwn ts x) popped.same_terminals own) in (
+over_popped g hubs next a b over popped hub x visited stands own =
+    let (i, at, set) = over hub x visited stands (subst (λ ts. IsOwn ts x) popped.same_terminals own) in (
       i,
       (at.0, ap (λ (ts : List (Term × PhaseSet)). slice_get ts i) popped.same_terminals ∙ at.1),
       subst (λ (sets : List PhaseSet). IsSet sets i x.phase) (sym popped.same_reached) set,
     )
 
--- all who stand where somebody went over are marked
-module _ (g : GraphView) (old new : HubsView) (hub : Hub) (phases left : PhaseSet) (a b : SearchView) (over : IsOver g old a) (went : GoesOver hub phases left old new) (m : MarksAll (AtHub g hub left) a b) where
+-- all who stand where was visited are marked
+module _ (g : GraphView) (old new : HubsView) (hub : Hub) (phases left : PhaseSet) (a b : SearchView) (over : IsOver g old a) (went : Visits hub phases left old new) (m : MarksAll (AtHub g hub left) a b) where
   pub over_more : IsOver g new b
-  over_more other x gone stands own =
+  over_more other x visited stands own =
       let own_a = subst (λ ts. IsOwn ts x) m.same_terminals own in
       ⊎_elim
       (λ before. m.kept x (over other x before stands own_a))
       (λ now. m.marked x (subst (λ (h : Hub). StandsIn g h x.term) now.0 stands, now.1) own_a)
-      (went.only other x.phase gone)
+      (went.only other x.phase visited)
 
   pub over_marks : MarksAll (AtHub g hub phases) a b
   over_marks =
       marks_rest (AtHub g hub left) (AtHub g hub phases) a b
       (λ x h. (h.0, went.asked x.phase h.1))
-      (λ x h own. ⊎_elim (λ l. inl (h.0, l)) (λ gone. inr (over hub x gone h.0 own)) (went.rest x.phase h.1))
+      (λ x h own. ⊎_elim (λ l. inl (h.0, l)) (λ visited. inr (over hub x visited h.0 own)) (went.rest x.phase h.1))
       m
 
--- nothing is left to be gone over
+-- nothing is left to be visited
 pub hub_nothing : (g : GraphView) (hub : Hub) (left : PhaseSet) (v : SearchView) → ((p : Phase) → has_phase left p ≡ false) → MarksAll (AtHub g hub left) v v
 hub_nothing g hub left v none = marks_nothing (AtHub g hub left) v (λ x h own. absurd (true≢false (sym h.1 ∙ none x.phase)))
 
 -- ---- places
-pub place_nobody : (g : GraphView) (place : Anchor) (left : PhaseSet) (v : SearchView) → members_of g place ≡ None → MarksAll (AtHub g (Place place) left) v v
-place_nobody g place left v none =
+pub place_unvisited : (g : GraphView) (place : Anchor) (left : PhaseSet) (v : SearchView) → members_of g place ≡ None → MarksAll (AtHub g (Place place) left) v v
+place_unvisited g place left v none =
     marks_nothing (AtHub g (Place place) left) v (λ x h own. let no : ◌≡◌ (Some h.0.0) None = sym h.0.1 ∙ none in absurd cc)
 
 pub place_members : (g : GraphView) (place : Anchor) (members : List Term) (left : PhaseSet) (a b : SearchView) → members_of g place ≡ Some members → MarksAll (AmongMembers members left) a b → MarksAll (AtHub g (Place place) left) a b
@@ -111,9 +110,9 @@ pub section_at : (sections items : List (List Term)) (n : ℕ) (section : List T
 section_at sections items n section same within is =
     subst (λ (ss : List (List Term)). slice_get ss n ≡ Some section) same (slice_get-get_or items n section within ∙ ap Some (sym is))
 
--- one more section in which a terminal stands was gone over
+-- one more section in which a terminal stands was visited
 module _ (g : GraphView) (segment : Id) (line : Line) (items : List (List Term)) (n : ℕ) (section : List Term) (t : Term) (phases left : PhaseSet) (old new : HubsView) (a b c : SearchView) (at : line_of g segment.number ≡ Some line) (same : items ≡ line.sections) (within : n < length items) (is : section ≡ get_or items n section) (has : Contains section t) where
-  pub section_more : MarksAll (InSections (take n items) t phases) a b → IsOver g old b → GoesOver (Section segment n) phases left old new → MarksAll (AtHub g (Section segment n) left) b c → MarksAll (InSections (take (n + 1) items) t phases) a c × IsOver g new c
+  pub section_more : MarksAll (InSections (take n items) t phases) a b → IsOver g old b → Visits (Section segment n) phases left old new → MarksAll (AtHub g (Section segment n) left) b c → MarksAll (InSections (take (n + 1) items) t phases) a c × IsOver g new c
   section_more first over went m = (
     sections_more items n section section t phases a b c within is has first
         (members_of_section g segment line n section at (section_at line.sections items n section same within is) phases b c (over_marks g old new (Section segment n) phases left b c over went m)),

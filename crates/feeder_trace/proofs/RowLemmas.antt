@@ -112,7 +112,7 @@ add_next before last part apart =
       below = λ n below le. below_push old part n below le;
     }
 
--- Where a merge stands after k parts: the rows list what these parts list, and no row stands behind a later part.
+-- Where a merge stands after k parts: the rows list what these parts list, and no row stands after a later part.
 pub record IsMerged (parts : List Row) (k : ℕ) (rows : List Row) : Type 0 where
   pub are : AreRows rows
   pub out : (y : ℕ) (p : Phase) → Lists rows y p → Lists (take k parts) y p

@@ -3,10 +3,10 @@ use Rattle.std.specs.Prelude.{ℕ, ◌+◌, ◌≤◌, length, count_by, Contain
 use Rattle.std.specs.Vec.{vec_capacity}
 use Rattle.cim_words.specs.Phases.{has_no_phase}
 use Rattle.cim_words.specs.declared.phases.Phase.{Phase}
-use Rattle.feeder_trace.specs.Marks.{MarksView, IsSet}
-use Rattle.feeder_trace.specs.declared.marks.Marks.TheInside.{Inside}
+use Rattle.feeder_trace.specs.Visited.{VisitedView, IsSet}
+use Rattle.feeder_trace.specs.declared.visited.Visited.TheInside.{Inside}
 
-abbrev pub view_of : Inside → MarksView
+abbrev pub view_of : Inside → VisitedView
 view_of marks = record { sets = marks.sets.items; visited = marks.visited.items }
 
 pub record AreNoted (marks : Inside) : Type 0 where

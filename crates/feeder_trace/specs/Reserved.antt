@@ -2,7 +2,7 @@
 use Rattle.std.specs.Prelude.{◌*◌, ◌≤◌, length}
 use Rattle.std.specs.Vec.{vec_capacity}
 use Rattle.feeder_trace.specs.Numbering.{IsNumbered}
-use Rattle.feeder_trace.specs.Tracer.{TracerView}
+use Rattle.feeder_trace.specs.Views.{TracerView}
 use Rattle.feeder_trace.specs.declared.tracer.Tracer.TheInside.{Inside}
 
 abbrev pub view_of : Inside → TracerView

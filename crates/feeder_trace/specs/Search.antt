@@ -5,14 +5,14 @@ use Rattle.cim_words.specs.declared.phases.PhaseSet.{PhaseSet}
 use Rattle.room_words.specs.declared.term.Point.{Point}
 use Rattle.room_words.specs.declared.term.Term.{Term}
 use Rattle.feeder_trace.specs.Numbering.{IsOwn}
-pub use Rattle.feeder_trace.specs.Marks.{IsSet}
-pub use Rattle.feeder_trace.specs.SearchView.{SearchView}
+pub use Rattle.feeder_trace.specs.Visited.{IsSet}
+pub use Rattle.feeder_trace.specs.Views.{SearchView}
 
 -- the terminal has this number
 abbrev pub IsAt : SearchView → ℕ → Term → Type 0
 IsAt v i t = (phases : PhaseSet) × (slice_get v.terminals i ≡ Some (t, phases))
 
--- a point is marked; nobody has gone on from it
+-- a point is marked; it is still to be spread from
 abbrev pub IsMarked : SearchView → Point → Type 0
 IsMarked v a = (i : ℕ) × IsAt v i a.term × IsSet v.reached i a.phase
 

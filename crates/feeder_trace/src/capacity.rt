@@ -15,7 +15,7 @@ pub(crate) fn times(count: usize, each: usize) -> Result<usize, NoMemory>
     }
 }
 
-/// Puts an item behind the others of a vector that has room for it, which takes no memory.
+/// Appends an item to a vector that has room for it, which takes no memory.
 pub(crate) fn put_within<T: Drop>(items: &mut Vec<T>, item: T)
     requires { vec_len items.old < vec_capacity items.old }
     ensures items { items.new.items ≡ items.old.items ++ item ∷ [] }

@@ -1,7 +1,7 @@
 //! What joins many terminals at once.
 
 ghost use Rattle.std.specs.Prelude.{◌≡◌};
-ghost use Rattle.feeder_trace.specs.Hub.{same_hub};
+ghost use Rattle.feeder_trace.specs.Hubs.{same_hub};
 ghost use Rattle.feeder_trace.specs.declared.hub.Hub.{Hub};
 
 use cim_words::Id;

@@ -1,14 +1,14 @@
-//! Which places and sections a trace has gone over, and in which phases.
+//! Which places and sections a trace has visited, and in which phases.
 
 ghost use Rattle.std.specs.Prelude.{◌≡◌, IfOk, OnOk};
 ghost use Rattle.cim_words.specs.declared.phases.Phase.{Phase};
 ghost use Rattle.graph_pages.specs.Walks.{line_in};
-ghost use Rattle.feeder_trace.specs.Hubs.{GoesOver, IsGone};
-ghost use Rattle.feeder_trace.specs.HubsOf.{Adds, AreNumbered, HasAll, IsPlaceOf, IsSectionOf, section_count};
+ghost use Rattle.feeder_trace.specs.Hubs.{Visits, IsVisited};
+ghost use Rattle.feeder_trace.specs.Hubs.{Adds, AreNumbered, HasAll, IsPlaceOf, IsSectionOf, section_count};
 ghost use Rattle.feeder_trace.specs.declared.hub.Hub.{Hub};
 
 use crate::hub::{Hub, hubs_are_compared};
-use crate::marks::Marks;
+use crate::visited::Visited;
 use crate::phases::without;
 use cim_words::{Id, NoMemory, PhaseSet};
 use graph_pages::{Graph, Pass, Spoke};
@@ -16,15 +16,15 @@ use indexmap::IndexSet;
 use std::alloc::Global;
 use std::marker::Model;
 
-/// The hubs of a graph, marked with the phases in which each was gone over.
+/// The hubs of a graph, marked with the phases in which each was visited.
 #[derive(Drop)]
 pub(crate) struct Hubs {
     hubs: IndexSet<Hub>,
-    gone: Marks,
+    visited: Visited,
 }
 
 impl Model for Hubs {
-    ghost use Rattle.feeder_trace.specs.HubsView.{HubsView};
+    ghost use Rattle.feeder_trace.specs.Views.{HubsView};
 
     ghost Value = { HubsView };
 
@@ -41,32 +41,32 @@ impl Hubs {
         ensures { IfOk result (λ hubs. AreNumbered graph.now hubs) }
     {
         let hubs = hubs_of(alloc, graph)?;
-        let gone = Marks::new(alloc, hubs.len())?;
-        Ok(Hubs { hubs, gone })
+        let visited = Visited::new(alloc, hubs.len())?;
+        Ok(Hubs { hubs, visited })
     }
 
     /// Takes all marks away.
     pub(crate) fn clear(&mut self)
         ensures hubs { self.new.hubs ≡ self.old.hubs }
-        ensures none { (hub : Hub) (p : Phase) → IsGone self.new hub p → ⊥ }
+        ensures none { (hub : Hub) (p : Phase) → IsVisited self.new hub p → ⊥ }
     {
-        self.gone.clear();
+        self.visited.clear();
     }
 
-    /// Goes over a hub: answers those of some phases in which nobody has gone over it, and notes them.
-    pub(crate) fn go_over(&mut self, hub: Hub, phases: PhaseSet) -> PhaseSet
-        ensures { GoesOver hub phases result self.old self.new }
+    /// Marks a hub visited in some phases, and returns those of them in which it was not visited before.
+    pub(crate) fn visit(&mut self, hub: Hub, phases: PhaseSet) -> PhaseSet
+        ensures { Visits hub phases result self.old self.new }
     {
         hubs_are_compared();
         let Some(index) = self.hubs.get_index_of(&hub) else {
             return phases;
         };
-        let before = self.gone.at(index);
+        let before = self.visited.at(index);
         let left = without(phases, before);
         if left.is_empty() {
             return left;
         }
-        self.gone.add(index, before, left);
+        self.visited.add(index, before, left);
         left
     }
 }

@@ -6,13 +6,13 @@ mod gather;
 mod hub;
 mod hubs;
 mod lines;
-mod marks;
 mod merge;
 mod phases;
 mod search;
 mod spread;
 mod terminals;
 mod tracer;
+mod visited;
 mod walk;
 
 pub use cim_words::NoMemory;

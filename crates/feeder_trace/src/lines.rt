@@ -5,7 +5,7 @@ ghost use Rattle.graph_pages.specs.Graph.{star_of};
 ghost use Rattle.room_words.specs.Terms.{same_term};
 ghost use Rattle.graph_pages.specs.Walks.{line_in, line_of, line_phases, line_at, own_or_on, phases_at};
 ghost use Rattle.graph_pages.specs.declared.star.Spoke.{Spoke};
-ghost use Rattle.feeder_trace.specs.Lines.{shown_line};
+ghost use Rattle.feeder_trace.specs.Spread.{shown_line};
 
 use cim_words::{Id, PhaseSet};
 use graph_pages::{Graph, Pass, Sections, Spoke, SpokePhases, Star, Term};

@@ -30,7 +30,7 @@ pub(crate) fn merge(parts: &mut Vec<Row>, rows: &mut Vec<Row>)
     }
 }
 
-/// Adds a part to the last row, or puts it behind the rows, none of which stands behind it.
+/// Adds a part to the last row, or puts it after the rows, none of which stands after it.
 fn add(rows: &mut Vec<Row>, part: Row)
     requires { vec_len rows.old < vec_capacity rows.old }
     ensures added { AddsRow part rows.old.items rows.new.items }

@@ -7,7 +7,7 @@ ghost use Rattle.room_words.specs.declared.term.Term.{Term};
 ghost use Rattle.feeder_trace.specs.Search.{IsAt, IsPopped, IsSet, MarksAll, AtTerm};
 
 use crate::capacity::{put_within, times};
-use crate::marks::Marks;
+use crate::visited::Visited;
 use crate::phases::without;
 use crate::terminals::Terminals;
 use cim_words::{NoMemory, PhaseSet};
@@ -18,16 +18,16 @@ use std::marker::Model;
 /// How many phases there are.
 const PHASES: usize = 6;
 
-/// The terminals, marked with the phases in which each was reached, and those with the phases from which nobody has gone on.
+/// The terminals, marked with the phases in which each was reached, and those that are still to be spread from, with the phases.
 #[derive(Drop)]
 pub(crate) struct Search {
     terminals: Terminals,
-    marks: Marks,
+    reached: Visited,
     pending: Vec<(Term, PhaseSet)>,
 }
 
 impl Model for Search {
-    ghost use Rattle.feeder_trace.specs.SearchView.{SearchView};
+    ghost use Rattle.feeder_trace.specs.Views.{SearchView};
 
     ghost Value = { SearchView };
 
@@ -48,7 +48,7 @@ impl Search {
         let points = times(count, PHASES)?;
         Ok(Search {
             terminals,
-            marks: Marks::new(alloc, count)?,
+            reached: Visited::new(alloc, count)?,
             pending: Vec::with_capacity(alloc, points)?,
         })
     }
@@ -66,11 +66,11 @@ impl Search {
         ensures pending { self.new.pending ≡ [] }
         ensures reached { (i : ℕ) (p : Phase) → IsSet self.new.reached i p → ⊥ }
     {
-        self.marks.clear();
+        self.reached.clear();
         self.pending.clear();
     }
 
-    /// A terminal from which nobody has gone on in some phases, and these phases.
+    /// A terminal that is still to be spread from in some phases, and these phases.
     pub(crate) fn next(&mut self) -> Option<(Term, PhaseSet)>
         ensures some { IfSome result (λ next. IsPopped next self.old self.new) }
         ensures none { IfNone result ((self.new ≡ self.old) × (self.old.pending ≡ [])) }
@@ -78,19 +78,19 @@ impl Search {
         self.pending.pop()
     }
 
-    /// Marks a terminal in those of some phases that are its own.
+    /// Visited a terminal in those of some phases that are its own.
     pub(crate) fn reach(&mut self, term: Term, phases: PhaseSet)
         ensures { MarksAll (AtTerm term phases) self.old self.new }
     {
         let Some((index, own)) = self.terminals.find(term) else {
             return;
         };
-        let before = self.marks.at(index);
+        let before = self.reached.at(index);
         let new = without(phases.meet(own), before);
         if new.is_empty() {
             return;
         }
-        self.marks.add(index, before, new);
+        self.reached.add(index, before, new);
         put_within(&mut self.pending, (term, new));
     }
 
@@ -100,7 +100,7 @@ impl Search {
         ensures every { (t : Term) (set : PhaseSet) → IsAt self.now index t → slice_get self.now.reached index ≡ Some set → result ≡ Some (t, set) }
     {
         let term = self.terminals.term(index)?;
-        Some((term, self.marks.at(index)))
+        Some((term, self.reached.at(index)))
     }
 
     /// The numbers of the terminals that were reached.
@@ -109,6 +109,6 @@ impl Search {
         ensures every { (i : ℕ) (p : Phase) → IsSet self.now.reached i p → Contains self.now.visited i }
         ensures bound { length self.now.visited ≤ length self.now.terminals }
     {
-        self.marks.visited()
+        self.reached.visited()
     }
 }

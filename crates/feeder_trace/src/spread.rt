@@ -2,7 +2,7 @@
 
 ghost use Rattle.std.specs.Prelude.{◌≡◌, ◌↔◌, IsTrue, Some};
 ghost use Rattle.graph_pages.specs.Graph.{star_of};
-ghost use Rattle.feeder_trace.specs.Over.{IsOver};
+ghost use Rattle.feeder_trace.specs.Spread.{IsOver};
 ghost use Rattle.feeder_trace.specs.Search.{MarksAll};
 ghost use Rattle.feeder_trace.specs.Spread.{AlongLineOf, AmongMembers, AmongSpokes, AtPlaceOf, JoinedFrom, PassedFrom};
 
@@ -15,7 +15,7 @@ use cim_words::PhaseSet;
 use graph_pages::{Graph, Pass, Spoke, Star, Term};
 use room_words::terms_are_compared;
 
-/// Marks all to which current goes on from a terminal in some phases.
+/// Visited all to which current goes on from a terminal in some phases.
 pub(crate) fn spread(
     search: &mut Search,
     hubs: &mut Hubs,
@@ -35,7 +35,7 @@ pub(crate) fn spread(
     through_star(search, star, term, phases);
 }
 
-/// Marks the terminals at the place where a terminal of a star stands.
+/// Visited the terminals at the place where a terminal of a star stands.
 fn at_place(
     search: &mut Search,
     hubs: &mut Hubs,
@@ -55,7 +55,7 @@ fn at_place(
     let Some(place) = spoke.at else {
         return;
     };
-    let phases = hubs.go_over(Hub::Place(place), phases);
+    let phases = hubs.visit(Hub::Place(place), phases);
     if phases.is_empty() {
         return;
     }
@@ -65,7 +65,7 @@ fn at_place(
     reach_members(search, members.as_slice(), phases);
 }
 
-/// Marks the terminals in the sections in which a terminal of a star stands on a line, in the line's phases.
+/// Visited the terminals in the sections in which a terminal of a star stands on a line, in the line's phases.
 fn along_line(
     search: &mut Search,
     hubs: &mut Hubs,
@@ -88,7 +88,7 @@ fn along_line(
         if !section.as_slice().contains(&term) {
             continue;
         }
-        let left = hubs.go_over(Hub::Section(line.segment, index), phases);
+        let left = hubs.visit(Hub::Section(line.segment, index), phases);
         if left.is_empty() {
             continue;
         }
@@ -96,7 +96,7 @@ fn along_line(
     }
 }
 
-/// Marks the terminals to which a star passes current from one of its own.
+/// Visited the terminals to which a star passes current from one of its own.
 fn through_star(search: &mut Search, star: &Star, term: Term, phases: PhaseSet)
     ensures { MarksAll (PassedFrom star.now term phases) search.old search.new }
 {
@@ -113,7 +113,7 @@ fn through_star(search: &mut Search, star: &Star, term: Term, phases: PhaseSet)
     }
 }
 
-/// Marks terminals in some phases.
+/// Visited terminals in some phases.
 fn reach_members(search: &mut Search, members: &[Term], phases: PhaseSet)
     ensures { MarksAll (AmongMembers members.now phases) search.old search.new }
 {
@@ -133,7 +133,7 @@ fn is_excepted(term: Term, except: Option<Term>) -> bool
     }
 }
 
-/// Marks the terminals of some spokes in some phases, but one of them.
+/// Visited the terminals of some spokes in some phases, but one of them.
 pub(crate) fn reach_spokes(
     search: &mut Search,
     spokes: &[Spoke],

@@ -37,7 +37,7 @@ pub struct Tracer {
 }
 
 impl Model for Tracer {
-    ghost use Rattle.feeder_trace.specs.Tracer.{TracerView};
+    ghost use Rattle.feeder_trace.specs.Views.{TracerView};
 
     ghost Value = { TracerView };
 

@@ -15,7 +15,7 @@ use crate::spread::{reach_spokes, spread};
 use cim_words::PhaseSet;
 use graph_pages::{Graph, Star};
 
-/// Marks all to which a walk leads from a star in some phases, and nothing else.
+/// Visited all to which a walk leads from a star in some phases, and nothing else.
 pub(crate) fn walk(
     search: &mut Search,
     hubs: &mut Hubs,

@@ -50,7 +50,7 @@ fn object(alloc: Global, said: Said) -> Result<Object, NoMemory>
     }
 }
 
-/// Puts the statements of rows behind others.
+/// Appends the statements of rows.
 pub(crate) fn append(statements: &mut Vec<Statement>, rows: &[Row]) -> Result<(), NoMemory> {
     let alloc = *statements.allocator();
     for row in rows {

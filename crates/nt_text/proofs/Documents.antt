@@ -18,7 +18,7 @@ feeds_step true false true byte xs ys hc hl rest = rw (hc, hl) (rest false)
 feeds_step false false true byte xs ys hc hl rest = rw (hc, hl) (ap (λ t. line_feed ∷ t) (rest false))
 feeds_step r false false byte xs ys hc hl rest = rw (hc, hl) (ap (λ t. byte ∷ t) (rest false))
 
--- the ends of the lines of bytes and of bytes behind them
+-- the ends of the lines of bytes and of bytes after them
 pub feeds_after-append : (r : Bool) (xs ys : List ℕ) → feeds_after r (xs ++ ys) ≡ feeds_after r xs ++ feeds_after (ends_in_return r xs) ys
 feeds_after-append r [] ys = refl
 feeds_after-append r (byte ∷ xs) ys =
@@ -36,7 +36,7 @@ feeds_plain r (byte ∷ line) free free' =
     let hl : (byte == line_feed) ≡ false = ne_eqb byte line_feed free.0 in
     rw (hc, hl) (ap (λ t. byte ∷ t) (feeds_plain false line free.1 free'.1))
 
--- whether a CR comes last, behind bytes without one
+-- whether a CR comes last, after bytes without one
 abbrev pub return_kept : Bool → List ℕ → Bool
 return_kept r [] = r
 return_kept r (byte ∷ line) = false

@@ -9,7 +9,7 @@ use Rattle.nt_text.specs.declared.spelling.Coding.{Coding}
 use Rattle.nt_text.specs.declared.spelling.Coding.TheVariants.{Iri, Literal}
 use Rattle.nt_text.proofs.SpelledTexts.{backslash_marks}
 
--- what stands behind a backslash: a letter, or a mark with its digits
+-- what stands after a backslash: a letter, or a mark with its digits
 pub data Marked (coding : Coding) (part : Part) (mark : ℕ) (after rest : List ℕ) : Type 0 where
   letter_of : IsPart coding (named mark) → part_text part ≡ encode_utf8 (named_character mark) → after ≡ rest → Marked coding part mark after rest
   four_of : (digits : List ℕ) → mark ≡ 0x75 → length digits ≡ 4 → IsTrue (are_hex digits) → IsScalar (hex_number digits)

@@ -105,7 +105,7 @@ ends_document state bytes found more is reads =
     let P : List (List ℕ) → Type 0 = λ lines. AreRead lines (found ++ more) in
     subst P (sym (lines_all state bytes found is)) (AreRead-append is.whole (last_line state.rest) found more is.read reads)
 
--- bytes behind the last end
+-- bytes after the last end
 pub last_one : (rest : List ℕ) → 0 < length rest → last_line rest ≡ rest ∷ []
 last_one [] some = absurd (omega arith)
 last_one (byte ∷ rest) some = refl

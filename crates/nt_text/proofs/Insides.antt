@@ -76,7 +76,7 @@ parts_close (part ∷ parts) rest each =
     ∙ part_passes part each.0 (flat_map part_spelling parts ++ quote ∷ rest) (length (flat_map part_spelling parts)) (parts_close parts rest each.1)
     ∙ ap Some (sym (length-append (part_spelling part) (flat_map part_spelling parts)))
 
--- the first quote that is not escaped stands behind what is spelled
+-- the first quote that is not escaped stands after what is spelled
 pub literal_closes : (inside text rest : List ℕ) → Spells Literal inside text → closing_at false (inside ++ quote ∷ rest) ≡ Some (length inside)
 literal_closes inside text rest spells =
     let P : List ℕ → Type 0 = λ l. closing_at false (l ++ quote ∷ rest) ≡ Some (length l) in

@@ -34,7 +34,7 @@ fault_reads line (fault.Refusal why.Wide) text some cause = (text, cause)
 
 -- ---- why a line is no triple
 
--- what does not stand behind two IRIs
+-- what does not stand after two IRIs
 abbrev pub NoObject : List ℕ → Type 0
 NoObject bytes = (BeginsBlankNode bytes → ⊥) × ((thing : Object) → HasObjectToEnd bytes thing → ⊥)
 

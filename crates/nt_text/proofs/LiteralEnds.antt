@@ -63,7 +63,7 @@ tagged_end bytes behind begins end =
       ends = end.ends;
     }
 
--- the first bytes behind the gap tell which of them stands there
+-- the first bytes after the gap tell which of them stands there
 pub other_byte : (front a b : List ℕ) (x y : ℕ) → (x == y) ≡ false → (y == y) ≡ true → front ≡ x ∷ a → front ≡ y ∷ b → ⊥
 other_byte front a b x y differ same begins begins' =
     let heads : x ≡ y = (let lists : x ∷ a ≡ y ∷ b = sym begins ∙ begins' in cc) in

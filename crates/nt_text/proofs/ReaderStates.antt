@@ -1,4 +1,4 @@
--- Where a reader stands behind a piece and behind a document.
+-- Where a reader stands after a piece and after a document.
 use Rattle.std.proofs.Common.{◌≡◌, ℕ, ◌+◌, ◌<◌, List, [], ◌++◌, length, Option, Some, None, sym, ap, ◌∙◌, subst, append-nil, length-append}
 use Rattle.cim_words.specs.declared.statement.Statement.{Statement}
 use Rattle.nt_text.specs.Document.{AreRead, IsDocument}

@@ -1,4 +1,4 @@
--- Runs of bytes at the front, and the forms of a line that begin behind a gap.
+-- Runs of bytes at the front, and the forms of a line that begin after a gap.
 use Rattle.std.proofs.Common.{◌≡◌, ◌≢◌, ℕ, zero, suc, List, [], ◌∷◌, ◌++◌, Bool, true, false, if◌then◌else◌, IsTrue, refl, sym, ap, ◌∙◌, arith, codes, inl, inr, Option, Some, None, MatchOption, IfSome, IsSomeAnd, is_some, Bor}
 use Rattle.std.proofs.lemmas.Bool.Decides.{nat_tests}
 use Rattle.std.proofs.lemmas.List.{append_cancel_left}
@@ -25,7 +25,7 @@ pub behind_run-append : (test : ℕ → Bool) (front rest : List ℕ) → AllPas
 behind_run-append test [] rest all = refl
 behind_run-append test (byte ∷ front) rest all = rw (head_passes test byte front all) (behind_run-append test front rest (tail_passes test byte front all))
 
--- bytes are a run and what stands behind it
+-- bytes are a run and what stands after it
 pub record HasRun (test : ℕ → Bool) (bytes rest : List ℕ) : Type 0 where
   pub run : List ℕ
   pub passes : AllPass test run
@@ -44,7 +44,7 @@ pub run_of : (test : ℕ → Bool) (bytes : List ℕ) → HasRun test bytes (beh
 run_of test [] = record { run = []; passes = none_pass test; layout = refl }
 run_of test (byte ∷ bytes) = run_here test byte bytes (test byte) refl (run_of test bytes)
 
--- a line that says nothing is one where no term begins behind the gap
+-- a line that says nothing is one where no term begins after the gap
 comment_is : (rest : List ℕ) → begins_no_term rest ≡ true → IsComment rest
 comment_is [] none = inl refl
 comment_is (byte ∷ rest) none = let same : byte ≡ 0x23 = grind (arith, nat_tests) in inr (rest, ap (λ (b : ℕ). b ∷ rest) same)
@@ -66,7 +66,7 @@ empty_line_begins bytes empty =
     ∙ ap begins_no_term (behind_run-append is_blank empty.gap empty.comment empty.blank)
     ∙ comment_begins empty.comment empty.ends
 
--- the end of a triple begins with a point behind the gap
+-- the end of a triple begins with a point after the gap
 pub end_from : (bytes after : List ℕ) → behind_run is_blank bytes ≡ codes "." ++ after → IsEmptyLine after → IsEnd bytes
 end_from bytes after is empty =
     let gap = run_of is_blank bytes in
@@ -75,7 +75,7 @@ end_from bytes after is empty =
 pub end_begins : (bytes : List ℕ) (end : IsEnd bytes) → behind_run is_blank bytes ≡ codes "." ++ end.after
 end_begins bytes end = ap (behind_run is_blank) end.layout ∙ behind_run-append is_blank end.gap (codes "." ++ end.after) end.blank
 
--- a blank node begins with its mark behind the gap
+-- a blank node begins with its mark after the gap
 pub blank_node_from : (bytes after : List ℕ) → behind_run is_blank bytes ≡ codes "_:" ++ after → BeginsBlankNode bytes
 blank_node_from bytes after is =
     let gap = run_of is_blank bytes in
@@ -84,7 +84,7 @@ blank_node_from bytes after is =
 pub blank_node_begins : (bytes : List ℕ) (node : BeginsBlankNode bytes) → behind_run is_blank bytes ≡ codes "_:" ++ node.after
 blank_node_begins bytes node = ap (behind_run is_blank) node.layout ∙ behind_run-append is_blank node.gap (codes "_:" ++ node.after) node.blank
 
--- what is stripped of a mark is what stands behind it
+-- what is stripped of a mark is what stands after it
 pub stripped_found : (o : Option (Bor (List ℕ))) (front bytes mark : List ℕ) → bytes ≡ front
     → MatchOption o ((rest : List ℕ) → bytes ≢ mark ++ rest) (λ x. bytes ≡ mark ++ x.now) → IfSome o (λ x. front ≡ mark ++ x.now)
 stripped_found None front bytes mark same is = tt
@@ -95,7 +95,7 @@ pub stripped_only : (o : Option (Bor (List ℕ))) (front bytes mark rest : List 
 stripped_only None front bytes mark rest same is stands = is rest (same ∙ stands)
 stripped_only (Some x) front bytes mark rest same is stands = append_cancel_left mark x.now rest (sym is ∙ same ∙ stands)
 
--- a mark stands there where something is found behind it
+-- a mark stands there where something is found after it
 pub blank_node_found : (o : Option (Bor (List ℕ))) (bytes : List ℕ) → IfSome o (λ x. behind_run is_blank bytes ≡ codes "_:" ++ x.now) → IsTrue (is_some o) → BeginsBlankNode bytes
 blank_node_found None bytes found is = absurd (let e : false ≡ true = is in cc)
 blank_node_found (Some x) bytes found is = blank_node_from bytes x.now found

@@ -57,7 +57,7 @@ stops_here mark behind byte rest same = cc
 pub stops_at_end : (mark : ℕ) → StopsAt mark []
 stops_at_end mark byte rest same = absurd cc
 
--- the escape behind a front is a part, and the only one
+-- the escape after a front is a part, and the only one
 pub record IsEscapeAt (coding : Coding) (behind character after : List ℕ) : Type 0 where
   pub part : Part
   pub is_part : IsPart coding part

@@ -67,7 +67,7 @@ pub record IsPast (bytes rest : List ℕ) : Type 0 where
   pub found : (end : List ℕ) → HasSubtags rest end → HasSubtags bytes end
   pub only : (end : List ℕ) → IsTrue (stops_tag end) → HasSubtags bytes end → HasSubtags rest end
 
--- the subtag behind a hyphen
+-- the subtag after a hyphen
 next_subtags : (rest subtag_on end : List ℕ) (subtags : List (List ℕ)) → rest ≡ codes "-" ++ subtag_on → AllByRecursion IsSubtag subtags
     → rest ≡ flat_map hyphened subtags ++ end → IsTrue (stops_tag end)
     → (subtag : List ℕ) × (more : List (List ℕ)) × IsSubtag subtag × AllByRecursion IsSubtag more × (subtag_on ≡ subtag ++ (flat_map hyphened more ++ end))
@@ -102,7 +102,7 @@ subtags_go_on bytes rest subtag_on after so_far begins (run, some, passes, layou
           layout = longest ∙ ap (behind_run is_letter_or_digit) tails ∙ behind_run-append is_letter_or_digit subtag (flat_map hyphened more ++ end) is.1 ∙ subtags_run more end stops;
         }
 
--- behind a hyphen there is a subtag
+-- after a hyphen there is a subtag
 pub no_subtag : (bytes rest subtag_on end : List ℕ) → IsPast bytes rest → rest ≡ codes "-" ++ subtag_on → behind_run is_letter_or_digit subtag_on ≡ subtag_on
     → IsTrue (stops_tag end) → HasSubtags bytes end → ⊥
 no_subtag bytes rest subtag_on end so_far begins none stops has =

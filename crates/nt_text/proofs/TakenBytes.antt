@@ -12,7 +12,7 @@ use Rattle.nt_text.specs.ReaderSteps.{IsPlain, IsEnd, is_half}
 use Rattle.nt_text.proofs.Cuts.{IsFreeOf-append}
 use Rattle.nt_text.proofs.Documents.{feeds_after-append, ends_in_return-append, feeds_plain, ends_plain, return_kept, fed, AreRead-append}
 
--- how the bytes go on behind what was read
+-- how the bytes go on after what was read
 pub go_on : (state : ReaderState) (before : List ℕ) (found : List Statement) (bytes : List ℕ) (is : HasRead state before found)
     → feeds_after false (before ++ bytes) ≡ (flat_map fed is.whole ++ state.rest) ++ feeds_after state.after_return bytes
 go_on state before found bytes is =

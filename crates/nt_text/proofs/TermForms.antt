@@ -1,4 +1,4 @@
--- Terms behind a gap: what begins there, and that there is one.
+-- Terms after a gap: what begins there, and that there is one.
 use Rattle.std.proofs.Common.{◌≡◌, ℕ, List, ◌∷◌, ◌++◌, false, length, Option, Some, None, IfSome, IfNone, IsSomeAnd, Bor, sym, ap, ◌∙◌, codes}
 use Rattle.cim_words.specs.Written.{quote}
 use Rattle.nt_text.specs.Grammar.{is_blank, HasIri, HasCharacters}
@@ -10,7 +10,7 @@ use Rattle.nt_text.specs.declared.spelling.Coding.TheVariants.{Iri, Literal}
 use Rattle.nt_text.proofs.Runs.{behind_run-append, run_of}
 use Rattle.nt_text.proofs.Insides.{one_split, one_place}
 
--- an IRI begins with its mark behind the gap
+-- an IRI begins with its mark after the gap
 pub iri_begins : (bytes text rest : List ℕ) (iri : HasIri bytes text rest) → behind_run is_blank bytes ≡ codes "<" ++ (iri.inside ++ closing ∷ rest)
 iri_begins bytes text rest iri = ap (behind_run is_blank) iri.layout ∙ behind_run-append is_blank iri.gap (codes "<" ++ (iri.inside ++ closing ∷ rest)) iri.blank
 
@@ -19,7 +19,7 @@ iri_from bytes inside text rest begins spells =
     let gap = run_of is_blank bytes in
     record { gap = gap.run; inside = inside; blank = gap.passes; spells = spells; layout = gap.layout ∙ ap (λ (l : List ℕ). gap.run ++ l) begins }
 
--- a literal begins with a quote behind the gap
+-- a literal begins with a quote after the gap
 pub literal_begins : (bytes text rest : List ℕ) (literal : HasCharacters bytes text rest) → behind_run is_blank bytes ≡ codes "\"" ++ (literal.inside ++ quote ∷ rest)
 literal_begins bytes text rest literal =
     ap (behind_run is_blank) literal.layout ∙ behind_run-append is_blank literal.gap (codes "\"" ++ (literal.inside ++ quote ∷ rest)) literal.blank

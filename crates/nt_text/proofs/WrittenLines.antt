@@ -57,7 +57,7 @@ id_spelled n = flat_map iri_spelling (id_iri n)
 spells_id : (n : ℕ) → Spells Iri (id_spelled n) (id_iri n)
 spells_id n = Spells-written Iri (id_iri n) (IsUtf8-id_iri n)
 
--- an object behind a space
+-- an object after a space
 iri_behind : (inside text rest : List ℕ) → Spells Iri inside text → HasIri (codes " " ++ ((codes "<" ++ inside ++ codes ">") ++ rest)) text rest
 iri_behind inside text rest spells = record {
   gap = codes " ";

@@ -6,7 +6,7 @@ use Rattle.nt_text.specs.Reading.{nothing, holds, refused, IsReading}
 use Rattle.nt_text.specs.declared.refusal.LineRefusal.{LineRefusal}
 
 -- The bytes with each end of a line as one line feed. A line ends at LF, at CR LF, or at a CR that no LF follows: an LF right
--- behind a CR belongs to the end that the CR began. The first argument says whether a CR stands right before the bytes.
+-- after a CR belongs to the end that the CR began. The first argument says whether a CR stands right before the bytes.
 abbrev pub feeds_after : Bool → List ℕ → List ℕ
 feeds_after return [] = []
 feeds_after return (byte ∷ bytes) =

@@ -1,4 +1,4 @@
--- What may stand behind a literal's characters, up to the end of the triple.
+-- What may stand after a literal's characters, up to the end of the triple.
 use Rattle.std.specs.Prelude.{ℕ, ◌≡◌, ◌<◌, length, List, [], ◌∷◌, ◌++◌, Bool, true, not, ◌||◌, ◌==◌, codes}
 use Rattle.std.specs.List.{flat_map, AllByRecursion}
 use Rattle.cim_words.specs.Written.{written_line}

@@ -67,7 +67,7 @@ pub record HasLanguage (bytes rest : List ℕ) : Type 0 where
   pub language : IsLanguage tag
   pub layout : bytes ≡ gap ++ (codes "@" ++ (tag ++ rest))
 
--- what may stand behind a literal's characters, and then the rest
+-- what may stand after a literal's characters, and then the rest
 abbrev pub HasKind : List ℕ → List ℕ → Type 0
 HasKind bytes rest = (bytes ≡ rest) ⊎ (HasDatatype bytes rest ⊎ HasLanguage bytes rest)
 

@@ -17,7 +17,7 @@ abbrev pub is_raw : Coding → ℕ → Bool
 is_raw Iri character = is_iri_character character
 is_raw Literal character = not (character == quote || character == backslash || character == line_feed || character == carriage_return)
 
--- whether a letter stands for a character behind a backslash, and for which
+-- whether a letter stands for a character after a backslash, and for which
 abbrev pub is_name : ℕ → Bool
 is_name letter = list_any (nat_eq letter) (codes "tbnrf\"'\\")
 
@@ -41,7 +41,7 @@ hex_number digits = hex_from 0 digits
 abbrev pub has_digits : ℕ → ℕ → Bool
 has_digits mark count = (mark == 0x75 && count == 4) || (mark == 0x55 && count == 8)
 
--- a part that may stand in a text: digits name a Unicode scalar value, and letters stand behind a backslash in literals alone
+-- a part that may stand in a text: digits name a Unicode scalar value, and letters stand after a backslash in literals alone
 abbrev pub IsPart : Coding → Part → Type 0
 IsPart coding (raw character) = IsScalar character × IsTrue (is_raw coding character)
 IsPart Iri (named letter) = ⊥

@@ -57,6 +57,6 @@ abbrev pub IsFaultOf : NtFault → List ℕ → List Statement → Type 0
 IsFaultOf (fault.Line number why) bytes found = IsBadDocument bytes number why found
 IsFaultOf fault.NoMemory bytes found = IsStopped bytes found
 
--- statements came behind those that were there, and this holds of them
+-- statements came after those that were there, and this holds of them
 abbrev pub Gained : List Statement → List Statement → (List Statement → Type 0) → Type 0
 Gained old new Holds = (more : List Statement) × (new ≡ old ++ more) × Holds more

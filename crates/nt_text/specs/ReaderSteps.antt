@@ -28,7 +28,7 @@ pub record IsFrontLine (bytes line : List ℕ) (end : ℕ) (after : List ℕ) : 
 abbrev pub is_half : Bool → List ℕ → ℕ → Bool
 is_half after_return line end = after_return && (length line == 0) && (end == line_feed)
 
--- the last line of a document: the bytes behind the last end, if there are any
+-- the last line of a document: the bytes after the last end, if there are any
 abbrev pub last_line : List ℕ → List (List ℕ)
 last_line [] = []
 last_line (byte ∷ line) = (byte ∷ line) ∷ []

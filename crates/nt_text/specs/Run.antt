@@ -10,7 +10,7 @@ is_of_kind kind.Blank byte = is_blank byte
 is_of_kind kind.Letter byte = is_letter byte
 is_of_kind kind.LetterOrDigit byte = is_letter_or_digit byte
 
--- what stands behind the longest front of bytes that pass a test
+-- what stands after the longest front of bytes that pass a test
 abbrev pub behind_run : (ℕ → Bool) → List ℕ → List ℕ
 behind_run test [] = []
 behind_run test (byte ∷ bytes) = if test byte then behind_run test bytes else byte ∷ bytes

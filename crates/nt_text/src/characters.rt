@@ -73,7 +73,7 @@ fn numbered(count: usize, bytes: &[u8]) -> Option<(char, &[u8])>
     Some((char::from_u32(hex_number(digits)?)?, rest))
 }
 
-/// The character that a letter stands for behind a backslash.
+/// The character that a letter stands for after a backslash.
 fn named(coding: Coding, letter: u8) -> Option<char>
     ensures found { IfSome result (λ character. IsPart coding (named letter) × (character ≡ named_character letter)) }
     ensures only { IsPart coding (named letter) → IsSomeAnd result (λ character. character ≡ named_character letter) }
@@ -92,7 +92,7 @@ fn named(coding: Coding, letter: u8) -> Option<char>
     }
 }
 
-/// The character that a mark behind a backslash stands for, and what follows the escape.
+/// The character that a mark after a backslash stands for, and what follows the escape.
 fn marked(coding: Coding, mark: u8, after: &[u8]) -> Option<(char, &[u8])>
     ensures found { IfSome result (λ x. (part : Part) × IsPart coding part × (part_text part ≡ encode_utf8 x.0)
         × (backslash ∷ (mark ∷ after.now) ≡ part_spelling part ++ x.1.now)) }
@@ -106,7 +106,7 @@ fn marked(coding: Coding, mark: u8, after: &[u8]) -> Option<(char, &[u8])>
     }
 }
 
-/// The character that the escape behind a backslash stands for, and what follows the escape.
+/// The character that the escape after a backslash stands for, and what follows the escape.
 fn escaped(coding: Coding, behind: &[u8]) -> Option<(char, &[u8])>
     ensures found { IfSome result (λ x. (part : Part) × IsPart coding part × (part_text part ≡ encode_utf8 x.0)
         × (backslash ∷ behind.now ≡ part_spelling part ++ x.1.now)) }

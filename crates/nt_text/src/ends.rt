@@ -1,4 +1,4 @@
-//! The end of a triple behind its object.
+//! The end of a triple after its object.
 
 ghost use Rattle.std.specs.Prelude.{◌≡◌, ◌↔◌, ◌<◌, ℕ, List, ◌++◌, length, IfOk, IfSome, IfNone, IsSomeAnd, IsTrue, codes};
 ghost use Rattle.std.specs.List.{AllPass};
@@ -10,7 +10,7 @@ use crate::terms::iri_at;
 use cim_words::NoMemory;
 use std::alloc::Global;
 
-/// What stands behind one or more bytes of a kind at the front.
+/// What stands after one or more bytes of a kind at the front.
 fn after_some(kind: ByteKind, bytes: &[u8]) -> Option<&[u8]>
     ensures found { IfSome result (λ rest. (run : List ℕ) × (0 < length run) × AllPass (is_of_kind kind) run × (bytes.now ≡ run ++ rest.now)) }
     ensures longest { IfSome result (λ rest. rest.now ≡ behind_run (is_of_kind kind) bytes.now) }
@@ -71,7 +71,7 @@ fn is_iri_end(alloc: Global, bytes: &[u8]) -> Result<bool, NoMemory>
     Ok(is_end(rest))
 }
 
-/// Whether the triple ends behind a literal's characters, with a datatype or a language tag or neither.
+/// Whether the triple ends after a literal's characters, with a datatype or a language tag or neither.
 pub(crate) fn is_literal_end(alloc: Global, bytes: &[u8]) -> Result<bool, NoMemory>
     ensures { IfOk result (λ is. IsTrue is ↔ HasLiteralEnd bytes.now) }
 {

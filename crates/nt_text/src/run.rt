@@ -1,4 +1,4 @@
-//! Runs of bytes of one kind, and what stands behind a gap.
+//! Runs of bytes of one kind, and what stands after a gap.
 
 ghost use Rattle.std.specs.Prelude.{◌≡◌, ◌↔◌, ℕ, List, ◌++◌, IsTrue, IfSome, IsSomeAnd};
 ghost use Rattle.nt_text.specs.Grammar.{is_blank, BeginsBlankNode, IsEmptyLine, IsEnd};
@@ -27,7 +27,7 @@ impl ByteKind {
     }
 }
 
-/// What stands behind the bytes of a kind at the front.
+/// What stands after the bytes of a kind at the front.
 pub(crate) fn after_run(kind: ByteKind, bytes: &[u8]) -> &[u8]
     ensures { result.now ≡ behind_run (is_of_kind kind) bytes.now }
 {
@@ -41,7 +41,7 @@ pub(crate) fn after_run(kind: ByteKind, bytes: &[u8]) -> &[u8]
     rest
 }
 
-/// What stands behind a mark that stands at the front behind a gap.
+/// What stands after a mark that stands at the front after a gap.
 pub(crate) fn after_mark<'a>(mark: &[u8], bytes: &'a [u8]) -> Option<&'a [u8]>
     ensures found { IfSome result (λ rest. behind_run is_blank bytes.now ≡ mark.now ++ rest.now) }
     ensures only { (rest : List ℕ) → behind_run is_blank bytes.now ≡ mark.now ++ rest → IsSomeAnd result (λ found. found.now ≡ rest) }
@@ -75,7 +75,7 @@ pub(crate) fn is_end(bytes: &[u8]) -> bool
     }
 }
 
-/// Whether a blank node begins behind a gap.
+/// Whether a blank node begins after a gap.
 pub(crate) fn begins_blank_node(bytes: &[u8]) -> bool
     ensures { IsTrue result ↔ BeginsBlankNode bytes.now }
 {

@@ -16,7 +16,7 @@ use crate::spelling::Coding;
 use cim_words::NoMemory;
 use std::alloc::Global;
 
-/// The inside of the IRI behind a gap, and what follows it.
+/// The inside of the IRI after a gap, and what follows it.
 fn iri_inside(bytes: &[u8]) -> Option<(&[u8], &[u8])>
     ensures found { IfSome result (λ x. behind_run is_blank bytes.now ≡ codes "<" ++ (x.0.now ++ closing ∷ x.1.now)) }
     ensures only { (inside rest : List ℕ) → IsFreeOf closing inside → behind_run is_blank bytes.now ≡ codes "<" ++ (inside ++ closing ∷ rest)
@@ -25,7 +25,7 @@ fn iri_inside(bytes: &[u8]) -> Option<(&[u8], &[u8])>
     cut_at(b'>', after_mark(b"<", bytes)?)
 }
 
-/// The inside of the literal behind a gap, and what follows it.
+/// The inside of the literal after a gap, and what follows it.
 fn literal_inside(bytes: &[u8]) -> Option<(&[u8], &[u8])>
     ensures found { IfSome result (λ x. behind_run is_blank bytes.now ≡ codes "\"" ++ (x.0.now ++ quote ∷ x.1.now)) }
     ensures only { (inside rest : List ℕ) → closing_at false (inside ++ quote ∷ rest) ≡ Some (length inside)
@@ -34,7 +34,7 @@ fn literal_inside(bytes: &[u8]) -> Option<(&[u8], &[u8])>
     cut_at_quote(after_mark(b"\"", bytes)?)
 }
 
-/// The text of the IRI behind a gap, and what follows it.
+/// The text of the IRI after a gap, and what follows it.
 pub(crate) fn iri_at(alloc: Global, bytes: &[u8]) -> Result<Option<(String, &[u8])>, NoMemory>
     ensures found { IfOk result (λ o. IfSome o (λ x. HasIri bytes.now (string_bytes x.0) x.1.now)) }
     ensures only { (text rest : List ℕ) → HasIri bytes.now text rest → IfOk result (λ o. IsSomeAnd o (λ x. (string_bytes x.0 ≡ text) × (x.1.now ≡ rest))) }
@@ -48,7 +48,7 @@ pub(crate) fn iri_at(alloc: Global, bytes: &[u8]) -> Result<Option<(String, &[u8
     }
 }
 
-/// The characters of the literal behind a gap, and what follows them.
+/// The characters of the literal after a gap, and what follows them.
 pub(crate) fn characters_at(
     alloc: Global,
     bytes: &[u8],

@@ -1,4 +1,4 @@
--- The front of a list that passes a test, and what stands behind it.
+-- The front of a list that passes a test, and what stands after it.
 use Rattle.std.proofs.Common.{◌≡◌, ℕ, ◌+◌, List, [], ◌∷◌, ◌++◌, take, drop, Bool, true, false, cond, refl, ap, add_comm, add-one}
 use Rattle.std.specs.List.{filter, prefix_len}
 

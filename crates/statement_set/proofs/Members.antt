@@ -51,7 +51,7 @@ gives_same these those same (Ok set) (is, small) = (same_set these those same se
 gives_same these those same (Err (TooMany count)) (set, is, long, above) = (set, same_set these those same set is, long, above)
 gives_same these those same (Err NoMemory) free = free
 
--- what is given of two lists, one behind the other, is their union
+-- what is given of two lists, one after the other, is their union
 pub gives_union : (these those : List Statement) (result : Result (List Statement) SetRefusal) → Gives (Contains (these ++ those)) result → Gives (IsInEither these those) result
 gives_union these those = gives_same (Contains (these ++ those)) (IsInEither these those) (λ s. (Contains-append_cases these those s, ⊎_elim (Contains-append_left these those s) (Contains-append_right these those s)))
 

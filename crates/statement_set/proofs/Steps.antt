@@ -6,7 +6,7 @@ use Rattle.std.proofs.lemmas.Iterator.Consumers.{YieldsList-from_first}
 use Rattle.std.proofs.lemmas.List.{length-drop, get_or-drop, drop-drop}
 use Rattle.cim_words.specs.declared.statement.Statement.{Statement}
 
--- the item at an index of a list, and what is left behind it
+-- the item at an index of a list, and what is left after it
 pub record IsStep {X : Type 0} (xs : List X) (i : ℕ) (x : X) (after : List X) : Type 0 where
   pub within : i < length xs
   pub is : x ≡ get_or xs i x

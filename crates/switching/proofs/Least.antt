@@ -76,7 +76,7 @@ low a (x ∷ xs) =
     let both = low_better a x (nat_le (number a) (number x)) refl in
     omega (arith, first, both)
 
--- one more behind the first, which is kept
+-- one more after the first, which is kept
 behind_kept : (n : ℕ) (a x : Mark) (rest : Option Mark) (b : Bool) → nat_le (number a) n ≡ b → nat_le (number a) (number x) ≡ true
     → cond b (Some a) (cond (nat_le (number x) n) (Some x) rest) ≡ cond b (Some a) rest
 behind_kept n a x rest true is first = refl

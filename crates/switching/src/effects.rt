@@ -64,7 +64,7 @@ fn removed(alloc: Global, overlay: &Overlay, id: Id) -> Result<Overlay, NoMemory
     })
 }
 
-/// The overlay with what an act places behind its items.
+/// The overlay with what an act places after its items.
 fn placed(alloc: Global, overlay: &Overlay, act: &Act) -> Result<Overlay, NoMemory>
     ensures { IfOk result (λ new. new ≡ parts.placing overlay.now act.now) }
 {
@@ -204,7 +204,7 @@ fn lesser(alloc: Global, positions: &[Position], switch: Id) -> Result<Vec<Posit
         .collect(alloc)
 }
 
-/// Puts the positions of the greater switches behind others.
+/// Appends the positions of the greater switches.
 fn append_greater(
     new: &mut Vec<Position>,
     positions: &[Position],

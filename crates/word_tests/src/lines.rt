@@ -16,7 +16,7 @@ const V: &str = r#"<urn:uuid:00000000-0000-0000-0000-0000000000a1> <http://x/p> 
 
 const NAME: &str = r#"<urn:uuid:00000000-0000-0000-0000-0000000000a1> <http://x/p> <b> ."#;
 
-/// The lines whose subject is written as usual, and what each reads as behind that subject.
+/// The lines whose subject is written as usual, and what each reads as after that subject.
 const BEHIND_SUBJECT: [(&str, &str); 39] = [
     (r#" <http://x/p> "v" ."#, r#" <http://x/p> "v" ."#),
     (r#"<http://x/p>"v"."#, r#" <http://x/p> "v" ."#),

@@ -216,7 +216,7 @@ fn union(parts: &[PhaseSet]) -> PhaseSet {
     set
 }
 
-/// Whether a set is written as this text, behind what stands there.
+/// Whether a set is written as this text, after what stands there.
 fn is_written(alloc: Global, set: PhaseSet, text: &str) -> Result<bool, NoMemory> {
     let mut written = Vec::from_slice(alloc, b"at ")?;
     set.write_text(&mut written)?;

@@ -10,7 +10,7 @@ use room_words::{ActRefusal, Anchor, Overlay, TempItem};
 use std::alloc::Global;
 use std::test::Fail;
 
-/// The overlay after an act that puts an item behind the others.
+/// The overlay after an act that puts an item after the others.
 fn grown(alloc: Global, index: &Index, overlay: &Overlay, order: Order) -> Result<Overlay, Fail> {
     match judged(alloc, index, overlay, order)? {
         Ok(new) if is_grown(overlay, &new, order) => Ok(new),

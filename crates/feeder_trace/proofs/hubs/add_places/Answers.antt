@@ -1,7 +1,7 @@
 use Rattle.std.proofs.Common.{List, refl, subst}
 use Rattle.std.proofs.lemmas.List.{take_all}
 use Rattle.graph_pages.specs.declared.star.Spoke.{Spoke}
-use Rattle.feeder_trace.specs.HubsOf.{Adds, IsPlaceOf}
+use Rattle.feeder_trace.specs.Hubs.{Adds, IsPlaceOf}
 use Rattle.feeder_trace.proofs.HubsOfLemmas.{place_more}
 use Rattle.feeder_trace.proofs.hubs.add_places.Goals as goal
 

@@ -1,5 +1,5 @@
 use Rattle.std.proofs.Common.{take}
-use Rattle.feeder_trace.specs.HubsOf.{Adds, IsPlaceOf}
+use Rattle.feeder_trace.specs.Hubs.{Adds, IsPlaceOf}
 use Rattle.feeder_trace.proofs.hubs.add_places.Given as goal
 
 abbrev pub invariant-loop-spoke : goal.invariant-loop-spoke

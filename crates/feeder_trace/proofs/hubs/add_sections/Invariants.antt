@@ -1,4 +1,4 @@
-use Rattle.feeder_trace.specs.HubsOf.{Adds, IsSectionOf}
+use Rattle.feeder_trace.specs.Hubs.{Adds, IsSectionOf}
 use Rattle.feeder_trace.proofs.hubs.add_sections.Given as goal
 
 abbrev pub invariant-loop-index : goal.invariant-loop-index

@@ -2,7 +2,7 @@ use Rattle.std.proofs.Common.{ℕ, map, Bor, List, sym, subst}
 use Rattle.std.proofs.lemmas.Iterator.Consumers.{YieldsList-from_first, YieldsList-end}
 use Rattle.graph_pages.specs.declared.star.Spoke.{Spoke}
 use Rattle.graph_pages.specs.declared.star.Star.{Star}
-use Rattle.feeder_trace.specs.HubsOf.{Adds, IsPlaceOf, IsSectionOf}
+use Rattle.feeder_trace.specs.Hubs.{Adds, IsPlaceOf, IsSectionOf}
 use Rattle.feeder_trace.proofs.HubsOfLemmas.{HasOf, all_more, all_of}
 use Rattle.feeder_trace.proofs.NumberingLemmas.{stars_push}
 use Rattle.feeder_trace.proofs.hubs.hubs_of.Goals as goal

@@ -1,5 +1,5 @@
 use Rattle.std.proofs.Common.{◌≡◌, List, sym, subst}
-use Rattle.feeder_trace.specs.HubsOf.{Adds}
+use Rattle.feeder_trace.specs.Hubs.{Adds}
 use Rattle.feeder_trace.specs.declared.hub.Hub.{Hub}
 use Rattle.feeder_trace.proofs.HubsOfLemmas.{put_adds}
 use Rattle.feeder_trace.proofs.hubs.put.Goals as goal

@@ -1,5 +1,5 @@
 use Rattle.std.proofs.Common.{sym, ◌∙◌, option_map}
-use Rattle.feeder_trace.specs.Lines.{shown_line}
+use Rattle.feeder_trace.specs.Spread.{shown_line}
 use Rattle.feeder_trace.proofs.SpreadLemmas.{segment_phases}
 use Rattle.feeder_trace.proofs.lines.phases_of_term.Goals as goal
 

@@ -1,9 +1,8 @@
 use Rattle.std.proofs.Common.{List, Some, refl, sym, ◌∙◌, subst, Contains}
 use Rattle.std.proofs.lemmas.List.{take_all}
 use Rattle.room_words.specs.declared.term.Term.{Term}
-use Rattle.feeder_trace.specs.Lines.{shown_line}
+use Rattle.feeder_trace.specs.Spread.{shown_line, AmongMembers, InSections}
 use Rattle.feeder_trace.specs.Search.{MarksAll}
-use Rattle.feeder_trace.specs.Spread.{AmongMembers, InSections}
 use Rattle.feeder_trace.specs.declared.hub.Hub.TheVariants.{Section}
 use Rattle.feeder_trace.proofs.OverLemmas.{hub_nothing, section_at, section_members, section_more}
 use Rattle.feeder_trace.proofs.SpreadLemmas.{line_is, line_marks, sections_skip, section_marks}
@@ -20,22 +19,22 @@ loop-index-preserved-then-not-contains c = (
 
 pub loop-index-preserved-then-is_empty : goal.loop-index-preserved-then-is_empty
 loop-index-preserved-then-is_empty c =
-    section_more c.args.graph.now c.in-Some.line.segment (shown_line c.in-Some.line) c.as_slice-section-items.result.now c.loop-index.index c.section-item.result c.args.term c.meet-phases.result c.go_over-left.result c.loop-index.hubs c.go_over-left.new.self c.args.search.now c.loop-index.search c.loop-index.search
+    section_more c.args.graph.now c.in-Some.line.segment (shown_line c.in-Some.line) c.as_slice-section-items.result.now c.loop-index.index c.section-item.result c.args.term c.meet-phases.result c.visit-left.result c.loop-index.hubs c.visit-left.new.self c.args.search.now c.loop-index.search c.loop-index.search
     c.in-Some.ensures.segment c.as_slice-section-items.ensures c.loop-index-test.true c.section-item.is
     (subst (λ (ts : List Term). Contains ts c.args.term) c.as_slice.ensures (contains_by _ c.terms_are_compared.ensures.derived c.as_slice.result.now c.args.term (sym c.contains.ensures.value ∙ c.if-not-contains.false)))
-    c.loop-index.invariant.0 c.loop-index.invariant.1 c.go_over-left.ensures
-    (hub_nothing c.args.graph.now (Section c.in-Some.line.segment c.loop-index.index) c.go_over-left.result c.loop-index.search (c.if-is_empty.ensures.phases.0 refl))
+    c.loop-index.invariant.0 c.loop-index.invariant.1 c.visit-left.ensures
+    (hub_nothing c.args.graph.now (Section c.in-Some.line.segment c.loop-index.index) c.visit-left.result c.loop-index.search (c.if-is_empty.ensures.phases.0 refl))
 
 pub loop-index-preserved : goal.loop-index-preserved
 loop-index-preserved c =
-    section_more c.args.graph.now c.in-Some.line.segment (shown_line c.in-Some.line) c.as_slice-section-items.result.now c.loop-index.index c.section-item.result c.args.term c.meet-phases.result c.go_over-left.result c.loop-index.hubs c.go_over-left.new.self c.args.search.now c.loop-index.search c.reach_members.new.search
+    section_more c.args.graph.now c.in-Some.line.segment (shown_line c.in-Some.line) c.as_slice-section-items.result.now c.loop-index.index c.section-item.result c.args.term c.meet-phases.result c.visit-left.result c.loop-index.hubs c.visit-left.new.self c.args.search.now c.loop-index.search c.reach_members.new.search
     c.in-Some.ensures.segment c.as_slice-section-items.ensures c.loop-index-test.true c.section-item.is
     (subst (λ (ts : List Term). Contains ts c.args.term) c.as_slice.ensures (contains_by _ c.terms_are_compared.ensures.derived c.as_slice.result.now c.args.term (sym c.contains.ensures.value ∙ c.if-not-contains.false)))
-    c.loop-index.invariant.0 c.loop-index.invariant.1 c.go_over-left.ensures
+    c.loop-index.invariant.0 c.loop-index.invariant.1 c.visit-left.ensures
     (section_members c.args.graph.now c.in-Some.line.segment (shown_line c.in-Some.line) c.loop-index.index c.section-item.result c.in-Some.ensures.segment
     (section_at c.in-Some.line.sections.now c.as_slice-section-items.result.now c.loop-index.index c.section-item.result c.as_slice-section-items.ensures c.loop-index-test.true c.section-item.is)
-    c.go_over-left.result c.loop-index.search c.reach_members.new.search
-    (subst (λ (ts : List Term). MarksAll (AmongMembers ts c.go_over-left.result) c.loop-index.search c.reach_members.new.search) c.as_slice-in-loop-index.ensures c.reach_members.ensures))
+    c.visit-left.result c.loop-index.search c.reach_members.new.search
+    (subst (λ (ts : List Term). MarksAll (AmongMembers ts c.visit-left.result) c.loop-index.search c.reach_members.new.search) c.as_slice-in-loop-index.ensures c.reach_members.ensures))
 
 pub returns-clause-marked : goal.returns-clause-marked
 returns-clause-marked c =

@@ -1,7 +1,6 @@
 use Rattle.std.proofs.Common.{take}
-use Rattle.feeder_trace.specs.Over.{IsOver}
+use Rattle.feeder_trace.specs.Spread.{IsOver, InSections}
 use Rattle.feeder_trace.specs.Search.{MarksAll}
-use Rattle.feeder_trace.specs.Spread.{InSections}
 use Rattle.feeder_trace.proofs.spread.along_line.Given as goal
 
 abbrev pub invariant-loop-index : goal.invariant-loop-index

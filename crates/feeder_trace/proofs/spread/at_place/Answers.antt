@@ -3,7 +3,7 @@ use Rattle.room_words.specs.declared.term.Term.{Term}
 use Rattle.feeder_trace.specs.Search.{MarksAll}
 use Rattle.feeder_trace.specs.Spread.{AmongMembers}
 use Rattle.feeder_trace.specs.declared.hub.Hub.TheVariants.{Place}
-use Rattle.feeder_trace.proofs.OverLemmas.{hub_nothing, over_marks, over_more, place_members, place_nobody, place_of}
+use Rattle.feeder_trace.proofs.OverLemmas.{hub_nothing, over_marks, over_more, place_members, place_unvisited, place_of}
 use Rattle.feeder_trace.proofs.SpreadLemmas.{place_is}
 use Rattle.feeder_trace.proofs.spread.at_place.Goals as goal
 
@@ -11,29 +11,29 @@ pub returns-then-is_empty-clause-marked : goal.returns-then-is_empty-clause-mark
 returns-then-is_empty-clause-marked c =
     place_of c.args.graph.now c.args.term c.args.phases c.in-Some-at.place c.args.search.now c.args.search.now
     (place_is c.args.graph.now c.args.term c.args.star.now (Some c.in-Some.spoke) c.requires.star c.in-Some.ensures ∙ c.in-Some-at.is)
-    (over_marks c.args.graph.now c.args.hubs.now c.go_over-phases.new.self (Place c.in-Some-at.place) c.args.phases c.go_over-phases.result c.args.search.now c.args.search.now c.requires.over c.go_over-phases.ensures
-    (hub_nothing c.args.graph.now (Place c.in-Some-at.place) c.go_over-phases.result c.args.search.now (c.if-is_empty.ensures.phases.0 refl)))
+    (over_marks c.args.graph.now c.args.hubs.now c.visit-phases.new.self (Place c.in-Some-at.place) c.args.phases c.visit-phases.result c.args.search.now c.args.search.now c.requires.over c.visit-phases.ensures
+    (hub_nothing c.args.graph.now (Place c.in-Some-at.place) c.visit-phases.result c.args.search.now (c.if-is_empty.ensures.phases.0 refl)))
 
 pub returns-then-is_empty-clause-over : goal.returns-then-is_empty-clause-over
 returns-then-is_empty-clause-over c =
-    over_more c.args.graph.now c.args.hubs.now c.go_over-phases.new.self (Place c.in-Some-at.place) c.args.phases c.go_over-phases.result c.args.search.now c.args.search.now c.requires.over c.go_over-phases.ensures
-    (hub_nothing c.args.graph.now (Place c.in-Some-at.place) c.go_over-phases.result c.args.search.now (c.if-is_empty.ensures.phases.0 refl))
+    over_more c.args.graph.now c.args.hubs.now c.visit-phases.new.self (Place c.in-Some-at.place) c.args.phases c.visit-phases.result c.args.search.now c.args.search.now c.requires.over c.visit-phases.ensures
+    (hub_nothing c.args.graph.now (Place c.in-Some-at.place) c.visit-phases.result c.args.search.now (c.if-is_empty.ensures.phases.0 refl))
 
 pub returns-in_default-members-clause-over : goal.returns-in_default-members-clause-over
 returns-in_default-members-clause-over c =
-    over_more c.args.graph.now c.args.hubs.now c.go_over-phases.new.self (Place c.in-Some-at.place) c.args.phases c.go_over-phases.result c.args.search.now c.args.search.now c.requires.over c.go_over-phases.ensures
-    (place_nobody c.args.graph.now c.in-Some-at.place c.go_over-phases.result c.args.search.now (sym c.in_default-members.ensures))
+    over_more c.args.graph.now c.args.hubs.now c.visit-phases.new.self (Place c.in-Some-at.place) c.args.phases c.visit-phases.result c.args.search.now c.args.search.now c.requires.over c.visit-phases.ensures
+    (place_unvisited c.args.graph.now c.in-Some-at.place c.visit-phases.result c.args.search.now (sym c.in_default-members.ensures))
 
 pub returns-clause-marked : goal.returns-clause-marked
 returns-clause-marked c =
     place_of c.args.graph.now c.args.term c.args.phases c.in-Some-at.place c.args.search.now c.reach_members.new.search
     (place_is c.args.graph.now c.args.term c.args.star.now (Some c.in-Some.spoke) c.requires.star c.in-Some.ensures ∙ c.in-Some-at.is)
-    (over_marks c.args.graph.now c.args.hubs.now c.go_over-phases.new.self (Place c.in-Some-at.place) c.args.phases c.go_over-phases.result c.args.search.now c.reach_members.new.search c.requires.over c.go_over-phases.ensures
-    (place_members c.args.graph.now c.in-Some-at.place c.in-Some-members.members.now c.go_over-phases.result c.args.search.now c.reach_members.new.search (sym c.in-Some-members.ensures)
-    (subst (λ (ms : List Term). MarksAll (AmongMembers ms c.go_over-phases.result) c.args.search.now c.reach_members.new.search) c.as_slice.ensures c.reach_members.ensures)))
+    (over_marks c.args.graph.now c.args.hubs.now c.visit-phases.new.self (Place c.in-Some-at.place) c.args.phases c.visit-phases.result c.args.search.now c.reach_members.new.search c.requires.over c.visit-phases.ensures
+    (place_members c.args.graph.now c.in-Some-at.place c.in-Some-members.members.now c.visit-phases.result c.args.search.now c.reach_members.new.search (sym c.in-Some-members.ensures)
+    (subst (λ (ms : List Term). MarksAll (AmongMembers ms c.visit-phases.result) c.args.search.now c.reach_members.new.search) c.as_slice.ensures c.reach_members.ensures)))
 
 pub returns-clause-over : goal.returns-clause-over
 returns-clause-over c =
-    over_more c.args.graph.now c.args.hubs.now c.go_over-phases.new.self (Place c.in-Some-at.place) c.args.phases c.go_over-phases.result c.args.search.now c.reach_members.new.search c.requires.over c.go_over-phases.ensures
-    (place_members c.args.graph.now c.in-Some-at.place c.in-Some-members.members.now c.go_over-phases.result c.args.search.now c.reach_members.new.search (sym c.in-Some-members.ensures)
-    (subst (λ (ms : List Term). MarksAll (AmongMembers ms c.go_over-phases.result) c.args.search.now c.reach_members.new.search) c.as_slice.ensures c.reach_members.ensures))
+    over_more c.args.graph.now c.args.hubs.now c.visit-phases.new.self (Place c.in-Some-at.place) c.args.phases c.visit-phases.result c.args.search.now c.reach_members.new.search c.requires.over c.visit-phases.ensures
+    (place_members c.args.graph.now c.in-Some-at.place c.in-Some-members.members.now c.visit-phases.result c.args.search.now c.reach_members.new.search (sym c.in-Some-members.ensures)
+    (subst (λ (ms : List Term). MarksAll (AmongMembers ms c.visit-phases.result) c.args.search.now c.reach_members.new.search) c.as_slice.ensures c.reach_members.ensures))

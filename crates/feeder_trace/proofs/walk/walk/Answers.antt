@@ -3,7 +3,7 @@ use Rattle.graph_pages.specs.declared.star.Spoke.{Spoke}
 use Rattle.feeder_trace.specs.Numbering.{IsNumbered}
 use Rattle.feeder_trace.specs.Search.{MarksAll}
 use Rattle.feeder_trace.specs.Spread.{AmongSpokes, JoinedFrom}
-use Rattle.feeder_trace.specs.SearchView.{SearchView}
+use Rattle.feeder_trace.specs.Views.{SearchView}
 use Rattle.feeder_trace.proofs.OverLemmas.{over_begins, over_popped}
 use Rattle.feeder_trace.proofs.WalkLemmas.{IsWalk, walk_begins, walk_goes_on, walk_ends, walk_falls}
 use Rattle.feeder_trace.proofs.walk.walk.Goals as goal

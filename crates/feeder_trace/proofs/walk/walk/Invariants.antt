@@ -1,5 +1,5 @@
 use Rattle.std.proofs.Common.{◌≡◌, ◌+◌, length}
-use Rattle.feeder_trace.specs.Over.{IsOver}
+use Rattle.feeder_trace.specs.Spread.{IsOver}
 use Rattle.feeder_trace.specs.Search.{unmarked}
 use Rattle.feeder_trace.proofs.WalkLemmas.{IsWalk}
 use Rattle.feeder_trace.proofs.walk.walk.Given as goal

@@ -3,7 +3,7 @@ use Rattle.std.proofs.lemmas.Option.{same_Some}
 use Rattle.cim_words.specs.declared.phases.PhaseSet.{PhaseSet}
 use Rattle.room_words.specs.declared.term.Term.{Term}
 use Rattle.feeder_trace.specs.Search.{IsAt}
-use Rattle.feeder_trace.specs.SearchView.{SearchView}
+use Rattle.feeder_trace.specs.Views.{SearchView}
 use Rattle.feeder_trace.proofs.RoomLemmas.{at_from, read_within}
 use Rattle.feeder_trace.proofs.search.Search.at.Goals as goal
 

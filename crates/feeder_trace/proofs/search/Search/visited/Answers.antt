@@ -1,7 +1,7 @@
 use Rattle.std.proofs.Common.{ℕ, Contains, subst}
 use Rattle.cim_words.specs.declared.phases.Phase.{Phase}
-use Rattle.feeder_trace.specs.Marks.{IsSet}
-use Rattle.feeder_trace.specs.SearchView.{SearchView}
+use Rattle.feeder_trace.specs.Visited.{IsSet}
+use Rattle.feeder_trace.specs.Views.{SearchView}
 use Rattle.feeder_trace.proofs.search.Search.visited.Goals as goal
 
 pub returns-clause-every : goal.returns-clause-every

@@ -5,7 +5,7 @@ use Rattle.cim_words.specs.declared.phases.Phase.{Phase}
 use Rattle.cim_words.specs.declared.phases.PhaseSet.{PhaseSet}
 
 -- the sets, and the numbers of those that have phases
-pub record MarksView : Type 0 where
+pub record VisitedView : Type 0 where
   pub sets : List PhaseSet
   pub visited : List ℕ
 

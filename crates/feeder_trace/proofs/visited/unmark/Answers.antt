@@ -2,9 +2,9 @@ use Rattle.std.proofs.Common.{ℕ, List, get_or, refl, ◌∙◌, subst, Contain
 use Rattle.std.proofs.lemmas.List.{take_all}
 use Rattle.cim_words.specs.declared.phases.Phase.{Phase}
 use Rattle.cim_model.specs.Phases.{no_phases}
-use Rattle.feeder_trace.specs.Marks.{IsSet}
+use Rattle.feeder_trace.specs.Visited.{IsSet}
 use Rattle.feeder_trace.proofs.NotedLemmas.{unmark_past, unmark_more}
-use Rattle.feeder_trace.proofs.marks.unmark.Goals as goal
+use Rattle.feeder_trace.proofs.visited.unmark.Goals as goal
 
 pub loop-index-preserved-then-index-len : goal.loop-index-preserved-then-index-len
 loop-index-preserved-then-index-len c = (

@@ -14,7 +14,7 @@ use statement_set::About;
 
 /// All statements about one subject, and the class that they name.
 #[derive(Drop)]
-struct Run<'a> {
+struct SubjectStatements<'a> {
     class: Option<Class>,
     statements: About<'a>,
 }
@@ -23,7 +23,7 @@ struct Run<'a> {
 pub(crate) fn read_subject(statements: &About<'_>) -> Subject
     ensures { result ≡ spec.subject_in statements.now }
 {
-    Run {
+    SubjectStatements {
         class: class_in(statements),
         statements: statements.again(),
     }
@@ -57,7 +57,7 @@ fn object_in<'a>(statements: &About<'a>, known: KnownProp) -> Option<&'a Object>
     None
 }
 
-impl<'a> Run<'a> {
+impl<'a> SubjectStatements<'a> {
     /// What the statements say of their subject.
     fn subject(&self) -> Subject
         ensures { result ≡ spec.subject_of self.now.class self.now.statements }
@@ -108,7 +108,8 @@ impl<'a> Run<'a> {
     fn segment(&self) -> Option<Id>
         ensures { result ≡ option_map as_id (spec.segment_in self.now.class self.now.statements) }
     {
-        self.id(KnownProp::CLAMP_SEGMENT).or(self.id(KnownProp::CUT_SEGMENT))
+        self.id(KnownProp::CLAMP_SEGMENT)
+            .or(self.id(KnownProp::CUT_SEGMENT))
     }
 
     /// How far a clamp or a cut is from its segment's terminal 1: as stated, else at it.

@@ -1,7 +1,7 @@
 use Rattle.std.proofs.Common.{◌≡◌, ℕ, take, length, Contains}
 use Rattle.cim_words.specs.declared.phases.Phase.{Phase}
-use Rattle.feeder_trace.specs.Marks.{IsSet}
-use Rattle.feeder_trace.proofs.marks.unmark.Given as goal
+use Rattle.feeder_trace.specs.Visited.{IsSet}
+use Rattle.feeder_trace.proofs.visited.unmark.Given as goal
 
 abbrev pub invariant-loop-index : goal.invariant-loop-index
 invariant-loop-index l =

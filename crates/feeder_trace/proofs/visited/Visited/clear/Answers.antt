@@ -1,6 +1,6 @@
 use Rattle.std.proofs.Common.{ℕ, List, Contains, sym, subst, arith}
 use Rattle.feeder_trace.proofs.NotedLemmas.{noted_none}
-use Rattle.feeder_trace.proofs.marks.Marks.clear.Goals as goal
+use Rattle.feeder_trace.proofs.visited.Visited.clear.Goals as goal
 
 pub invariant_of-self : goal.invariant_of-self
 invariant_of-self c =

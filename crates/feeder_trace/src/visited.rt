@@ -5,7 +5,7 @@ ghost use Rattle.std.specs.Vec.{vec_capacity};
 ghost use Rattle.cim_model.specs.Phases.{no_phases};
 ghost use Rattle.cim_words.specs.Phases.{has_no_phase};
 ghost use Rattle.cim_words.specs.declared.phases.Phase.{Phase};
-ghost use Rattle.feeder_trace.specs.Marks.{IsSet, Joins};
+ghost use Rattle.feeder_trace.specs.Visited.{IsSet, Joins};
 
 use crate::capacity::put_within;
 use cim_words::{NoMemory, PhaseSet};
@@ -14,15 +14,15 @@ use std::marker::Model;
 
 /// Sets of phases by number, and the numbers of those that have phases.
 #[derive(Drop)]
-pub(crate) struct Marks {
+pub(crate) struct Visited {
     sets: Vec<PhaseSet>,
     visited: Vec<usize>,
 }
 
-impl Model for Marks {
-    ghost use Rattle.feeder_trace.specs.Marks.{MarksView};
+impl Model for Visited {
+    ghost use Rattle.feeder_trace.specs.Visited.{VisitedView};
 
-    ghost Value = { MarksView };
+    ghost Value = { VisitedView };
 
     ghost use Rattle.feeder_trace.specs.Noted.{AreNoted, view_of};
 
@@ -31,12 +31,12 @@ impl Model for Marks {
     ghost invariant = { AreNoted };
 }
 
-impl Marks {
+impl Visited {
     /// So many sets without phases, with the memory for all marks.
-    pub(crate) fn new(alloc: Global, count: usize) -> Result<Marks, NoMemory>
+    pub(crate) fn new(alloc: Global, count: usize) -> Result<Visited, NoMemory>
         ensures { IfOk result (λ marks. length marks.sets ≡ count) }
     {
-        Ok(Marks {
+        Ok(Visited {
             sets: empty_sets(alloc, count)?,
             visited: Vec::with_capacity(alloc, count)?,
         })

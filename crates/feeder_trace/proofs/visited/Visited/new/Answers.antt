@@ -2,9 +2,9 @@ use Rattle.std.proofs.Common.{◌≡◌, List, length, ap, ◌∙◌, subst, ari
 use Rattle.std.proofs.lemmas.List.{length-replicate}
 use Rattle.cim_model.specs.Phases.{no_phases}
 use Rattle.cim_words.specs.declared.phases.PhaseSet.{PhaseSet}
-use Rattle.feeder_trace.specs.Marks.{IsSet}
+use Rattle.feeder_trace.specs.Visited.{IsSet}
 use Rattle.feeder_trace.proofs.NotedLemmas.{noted_none, unset}
-use Rattle.feeder_trace.proofs.marks.Marks.new.Goals as goal
+use Rattle.feeder_trace.proofs.visited.Visited.new.Goals as goal
 
 pub invariant_of-result : goal.invariant_of-result
 invariant_of-result c =
