@@ -2,6 +2,7 @@
 
 mod limits;
 mod scripts;
+mod traces;
 
 use crate::model::{CONSUMER, NODE, Row, SEGMENT, Said, TERMINAL, set_of};
 use cim_profile::first_break;

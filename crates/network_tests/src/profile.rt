@@ -89,12 +89,19 @@ const CLASSES_AND_OWNERS: [Case; 13] = [
     (
         &[
             (30, KnownProp::RDF_TYPE, HOUSE),
-            (30, KnownProp::RDF_TYPE, Said::Name("http://example.org/Hut")),
+            (
+                30,
+                KnownProp::RDF_TYPE,
+                Said::Name("http://example.org/Hut"),
+            ),
             (30, KnownProp::RDF_TYPE, TERMINAL),
         ],
         Some((1, 30)),
     ),
-    (&[(1, KnownProp::SEQUENCE_NUMBER, Said::Text("2"))], Some((2, 1))),
+    (
+        &[(1, KnownProp::SEQUENCE_NUMBER, Said::Text("2"))],
+        Some((2, 1)),
+    ),
     (
         &[
             (0, KnownProp::RDF_TYPE, CLAMP),
@@ -243,7 +250,10 @@ fn crowd(alloc: Global, count: u32, at_node: bool) -> Result<StatementSet, SetRe
     let mut statements = Vec::new(alloc);
     append(
         &mut statements,
-        &[(20, KnownProp::RDF_TYPE, NODE), (60, KnownProp::RDF_TYPE, HOUSE)],
+        &[
+            (20, KnownProp::RDF_TYPE, NODE),
+            (60, KnownProp::RDF_TYPE, HOUSE),
+        ],
     )?;
     for i in 1000..1000 + u128::from(count) {
         let house = if at_node { 10_000 + i } else { 60 };

@@ -112,7 +112,11 @@ const OTHERS: [Row; 19] = [
     (35, KnownProp::RDF_TYPE, TERMINAL),
     (35, KnownProp::CONDUCTING_EQUIPMENT, Said::Id(17)),
     (50, KnownProp::RDF_TYPE, HOUSE),
-    (50, KnownProp::RDF_TYPE, Said::Name("http://example.org/Shed")),
+    (
+        50,
+        KnownProp::RDF_TYPE,
+        Said::Name("http://example.org/Shed"),
+    ),
     (50, KnownProp::CONDUCTING_EQUIPMENT, Said::Id(10)),
     (50, KnownProp::SWITCH_OPEN, Said::Text("true")),
     (50, KnownProp::CUT_SEGMENT, Said::Id(10)),
