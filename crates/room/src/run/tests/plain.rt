@@ -115,7 +115,12 @@ fn segment_phases(statements: &[Statement], segment: Id) -> PhaseSet {
     }
     let mut union = PhaseSet::EMPTY;
     for statement in statements {
-        if id_said(statements, statement.subject, KnownProp::CONDUCTING_EQUIPMENT) == Some(segment) {
+        if id_said(
+            statements,
+            statement.subject,
+            KnownProp::CONDUCTING_EQUIPMENT,
+        ) == Some(segment)
+        {
             union = union.join(terminal_phases(statements, statement.subject));
         }
     }
@@ -138,7 +143,11 @@ fn is_side_one(statements: &[Statement], owner: Id, terminal: Id) -> bool {
         Some(Object::Text(text)) => text.text() == "1",
         _ => statements.iter().all(|statement| {
             statement.subject >= terminal
-                || id_said(statements, statement.subject, KnownProp::CONDUCTING_EQUIPMENT) != Some(owner)
+                || id_said(
+                    statements,
+                    statement.subject,
+                    KnownProp::CONDUCTING_EQUIPMENT,
+                ) != Some(owner)
         }),
     }
 }
@@ -182,7 +191,9 @@ fn cuts_of(alloc: Global, statements: &[Statement]) -> Result<Vec<(Id, u64)>, No
     let mut cuts = Vec::new(alloc);
     for statement in statements {
         let mark = statement.subject;
-        if statement.prop != Prop::Known(KnownProp::RDF_TYPE) || !class_said(statements, mark).is_cut() {
+        if statement.prop != Prop::Known(KnownProp::RDF_TYPE)
+            || !class_said(statements, mark).is_cut()
+        {
             continue;
         }
         if let Some(cut) = mark_said(statements, mark) {
