@@ -112,23 +112,43 @@ mod tests {
     use super::*;
     use std::test::Fail;
 
-    fn missing() -> io::Result<&'static [u8]> {
-        Err(io::Error::from(io::ErrorKind::NotFound))
+    /// What was opened, the cap, the answer, what is read, and how many faults there were then.
+    type Row = (
+        Result<&'static [u8], io::ErrorKind>,
+        u64,
+        Result<(), ShelfFault>,
+        &'static str,
+        u64,
+    );
+
+    const ROWS: &[Row] = &[
+        (Ok(b"abc"), 3, Ok(()), "abc", 0),
+        (Ok(b"abc"), 2, Err(ShelfFault::Longer), "", 0),
+        (
+            Err(io::ErrorKind::NotFound),
+            3,
+            Err(ShelfFault::Failed),
+            "",
+            1,
+        ),
+        (Ok(b""), 0, Ok(()), "", 1),
+    ];
+
+    /// Whether what was opened is read so into what was read before.
+    fn reads(into: &mut Vec<u8>, faults: &mut u64, row: &Row) -> bool {
+        let (opened, cap, answer, bytes, count) = *row;
+        let opened = opened.map_err(io::Error::from);
+        read_opened(opened, cap, into, faults) == answer
+            && into.as_slice() == bytes.as_bytes()
+            && *faults == count
     }
 
     #[test]
     fn reads_what_was_opened(rt: HostRuntime) -> Result<(), Fail> {
         let mut into = Vec::from_slice(rt.alloc(), b"old")?;
         let mut faults = 0;
-        for (opened, cap, answer, bytes, count) in [
-            (Ok(b"abc".as_slice()), 3, Ok(()), "abc", 0),
-            (Ok(b"abc".as_slice()), 2, Err(ShelfFault::Longer), "", 0),
-            (missing(), 3, Err(ShelfFault::Failed), "", 1),
-            (Ok(b"".as_slice()), 0, Ok(()), "", 1),
-        ] {
-            assert_eq!(rt; read_opened(opened, cap, &mut into, &mut faults), answer);
-            assert_eq!(rt; into.as_slice(), bytes.as_bytes());
-            assert_eq!(rt; faults, count);
+        for row in ROWS {
+            assert!(rt; reads(&mut into, &mut faults, row));
         }
         Ok(())
     }

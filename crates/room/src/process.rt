@@ -71,6 +71,15 @@ mod tests {
     use grid_out::{Files, MemShelf, MemSink};
     use std::test::Fail;
 
+    /// The arguments in a line, or why there are none; with which code the process ends, and what is written.
+    const RUNS: &[(Result<&str, io::ErrorKind>, u8, &str)] = &[
+        (Ok("room check empty"), 0, "ok 0\n"),
+        (Ok("room check other"), 1, "read fault\n"),
+        (Ok("room"), 2, "usage\n"),
+        (Err(io::ErrorKind::InvalidData), 2, "usage\n"),
+        (Err(io::ErrorKind::OutOfMemory), 6, ""),
+    ];
+
     fn args(alloc: Global, line: &str) -> Result<Args, NoMemory> {
         let mut args = Vec::new(alloc);
         for arg in line.split(' ') {
@@ -79,26 +88,36 @@ mod tests {
         Ok(args.into_iter())
     }
 
-    fn fails(kind: io::ErrorKind) -> io::Result<Args> {
-        Err(io::Error::from(kind))
+    fn given(
+        alloc: Global,
+        line: Result<&str, io::ErrorKind>,
+    ) -> Result<io::Result<Args>, NoMemory> {
+        match line {
+            Ok(line) => Ok(Ok(args(alloc, line)?)),
+            Err(kind) => Ok(Err(io::Error::from(kind))),
+        }
+    }
+
+    /// Whether a process with these arguments ends with this code and writes this, over one file, which is empty.
+    fn exits(
+        alloc: Global,
+        args: io::Result<Args>,
+        code: u8,
+        text: &str,
+    ) -> Result<bool, NoMemory> {
+        let mut files = Files::empty(alloc);
+        files.add("empty", b"")?;
+        let mut shelf = MemShelf::new(alloc, files, &[])?;
+        let mut out = MemSink::new(alloc, 100, &[])?;
+        let given = run_code(alloc, args, &mut shelf, &mut out);
+        Ok(given == code && out.written() == text.as_bytes())
     }
 
     #[test]
     fn exits_with_the_code(rt: HostRuntime) -> Result<(), Fail> {
-        let alloc = rt.alloc();
-        for (args, code, text) in [
-            (Ok(args(alloc, "room check empty")?), 0, "ok 0\n"),
-            (Ok(args(alloc, "room check other")?), 1, "read fault\n"),
-            (Ok(args(alloc, "room")?), 2, "usage\n"),
-            (fails(io::ErrorKind::InvalidData), 2, "usage\n"),
-            (fails(io::ErrorKind::OutOfMemory), 6, ""),
-        ] {
-            let mut files = Files::empty(alloc);
-            files.add("empty", b"")?;
-            let mut shelf = MemShelf::new(alloc, files, &[])?;
-            let mut out = MemSink::new(alloc, 100, &[])?;
-            assert_eq!(rt; run_code(alloc, args, &mut shelf, &mut out), code);
-            assert_eq!(rt; out.written(), text.as_bytes());
+        for (line, code, text) in RUNS {
+            let args = given(rt.alloc(), *line)?;
+            assert!(rt; exits(rt.alloc(), args, *code, text)?);
         }
         Ok(())
     }

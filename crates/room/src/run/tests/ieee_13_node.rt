@@ -1,52 +1,51 @@
 //! The IEEE 13-node test feeder (IEEE Distribution Test Feeders), in the profile.
 
-use super::words;
-use crate::run::run_plain;
+use super::{push_pieces, writes};
 use crate::status::Status;
 use cim_words::NoMemory;
-use grid_out::{Files, MemShelf, MemSink};
 use std::alloc::Global;
 use std::test::Fail;
 
-const NODES: [&str; 16] = [
+const NODES: &[&str] = &[
     "000115", "000650", "000060", "000632", "000633", "000634", "000645", "000646", "000670",
     "000671", "000680", "000684", "000611", "000652", "000692", "000675",
 ];
 
-/// Equipment with two terminals: the substation's transformer, the regulator, the transformer at node 633 and the switch.
-const BETWEEN: [(&str, &str, &str, &str, &str); 4] = [
-    ("2", "115650", "PowerTransformer", "000115", "000650"),
-    ("2", "650060", "PowerTransformer", "000650", "000060"),
-    ("2", "633634", "PowerTransformer", "000633", "000634"),
-    ("3", "671692", "LoadBreakSwitch", "000671", "000692"),
+/// Equipment with two terminals: its kind and number, its class, its nodes, and the phases of its phase objects. The transformers
+/// are the substation's, the regulator and the one at node 633.
+const BETWEEN: &[(&str, &str, &str, &str, &str, &str)] = &[
+    ("2", "115650", "PowerTransformer", "000115", "000650", ""),
+    ("2", "650060", "PowerTransformer", "000650", "000060", ""),
+    ("2", "633634", "PowerTransformer", "000633", "000634", ""),
+    ("3", "671692", "LoadBreakSwitch", "000671", "000692", ""),
+    ("1", "060632", "ACLineSegment", "000060", "000632", "ABCN"),
+    ("1", "632633", "ACLineSegment", "000632", "000633", "ABCN"),
+    ("1", "632645", "ACLineSegment", "000632", "000645", "BCN"),
+    ("1", "632670", "ACLineSegment", "000632", "000670", "ABCN"),
+    ("1", "645646", "ACLineSegment", "000645", "000646", "BCN"),
+    ("1", "670671", "ACLineSegment", "000670", "000671", "ABCN"),
+    ("1", "671680", "ACLineSegment", "000671", "000680", "ABCN"),
+    ("1", "671684", "ACLineSegment", "000671", "000684", "ACN"),
+    ("1", "684611", "ACLineSegment", "000684", "000611", "CN"),
+    ("1", "684652", "ACLineSegment", "000684", "000652", "AN"),
+    ("1", "692675", "ACLineSegment", "000692", "000675", "ABCN"),
 ];
 
-/// The lines, with their nodes and phases.
-const LINES: [(&str, &str, &str, &str); 11] = [
-    ("060632", "000060", "000632", "ABCN"),
-    ("632633", "000632", "000633", "ABCN"),
-    ("632645", "000632", "000645", "BCN"),
-    ("632670", "000632", "000670", "ABCN"),
-    ("645646", "000645", "000646", "BCN"),
-    ("670671", "000670", "000671", "ABCN"),
-    ("671680", "000671", "000680", "ABCN"),
-    ("671684", "000671", "000684", "ACN"),
-    ("684611", "000684", "000611", "CN"),
-    ("684652", "000684", "000652", "AN"),
-    ("692675", "000692", "000675", "ABCN"),
-];
-
-/// The loads, with their phases; each stands at the node of its own number.
-const LOADS: [(&str, &str); 9] = [
-    ("000611", "C"),
-    ("000634", "ABC"),
-    ("000645", "B"),
-    ("000646", "BC"),
-    ("000652", "A"),
-    ("000670", "ABC"),
-    ("000671", "ABC"),
-    ("000675", "ABC"),
-    ("000692", "AC"),
+/// Equipment with one terminal, at the node of its own number: its kind and number, its class, and the phases of its phase objects.
+/// The capacitors are of a class that the profile does not know.
+const SINGLE: &[(&str, &str, &str, &str)] = &[
+    ("5", "000115", "EnergySource", ""),
+    ("4", "000611", "EnergyConsumer", "C"),
+    ("4", "000634", "EnergyConsumer", "ABC"),
+    ("4", "000645", "EnergyConsumer", "B"),
+    ("4", "000646", "EnergyConsumer", "BC"),
+    ("4", "000652", "EnergyConsumer", "A"),
+    ("4", "000670", "EnergyConsumer", "ABC"),
+    ("4", "000671", "EnergyConsumer", "ABC"),
+    ("4", "000675", "EnergyConsumer", "ABC"),
+    ("4", "000692", "EnergyConsumer", "AC"),
+    ("6", "000611", "LinearShuntCompensator", ""),
+    ("6", "000675", "LinearShuntCompensator", ""),
 ];
 
 const TRACE: &str = "trace 0 27\n\
@@ -78,40 +77,51 @@ const TRACE: &str = "trace 0 27\n\
     00000013-0000-4000-8006-000000000611 C\n\
     00000013-0000-4000-8006-000000000675 ABC\n";
 
-/// Appends an identifier: of a kind, with six digits before those of its number.
-fn push_id(text: &mut String, kind: &str, before: &str, number: &str) -> Result<(), NoMemory> {
-    text.push_str("<urn:uuid:00000013-0000-4000-800")?;
-    text.push_str(kind)?;
-    text.push_str("-")?;
-    text.push_str(before)?;
-    text.push_str(number)?;
-    text.push_str(">")
-}
+/// How all identifiers begin.
+const ID_BEGIN: &str = "<urn:uuid:00000013-0000-4000-800";
 
-/// Appends a property of the standard, and what follows it.
-fn push_prop(text: &mut String, prop: &str) -> Result<(), NoMemory> {
-    text.push_str(" <http://iec.ch/TC57/CIM100#")?;
-    text.push_str(prop)?;
-    text.push_str("> ")
-}
+/// Properties, each with the beginning of what is said by it.
+const CLASS: &str = "<http://www.w3.org/1999/02/22-rdf-syntax-ns#type> <http://iec.ch/TC57/CIM100#";
 
-fn push_name(text: &mut String, name: &str, ending: &str) -> Result<(), NoMemory> {
-    text.push_str("<http://iec.ch/TC57/CIM100#")?;
-    text.push_str(name)?;
-    text.push_str(ending)?;
-    text.push_str("> .\n")
-}
+const EQUIPMENT: &str =
+    "<http://iec.ch/TC57/CIM100#Terminal.ConductingEquipment> <urn:uuid:00000013-0000-4000-800";
 
-fn push_type(
+const NODE: &str =
+    "<http://iec.ch/TC57/CIM100#Terminal.ConnectivityNode> <urn:uuid:00000013-0000-4000-8000-000000";
+
+const TERMINAL_PHASES: &str =
+    "<http://iec.ch/TC57/CIM100#Terminal.phases> <http://iec.ch/TC57/CIM100#PhaseCode.";
+
+/// Phase objects: their class, and the properties by which they name their equipment and their phase.
+type Part = (&'static str, &'static str, &'static str);
+
+const LINE_PART: Part = (
+    "ACLineSegmentPhase",
+    "<http://iec.ch/TC57/CIM100#ACLineSegmentPhase.ACLineSegment> <urn:uuid:00000013-0000-4000-8001-000000",
+    "<http://iec.ch/TC57/CIM100#ACLineSegmentPhase.phase> <http://iec.ch/TC57/CIM100#SinglePhaseKind.",
+);
+
+const LOAD_PART: Part = (
+    "EnergyConsumerPhase",
+    "<http://iec.ch/TC57/CIM100#EnergyConsumerPhase.EnergyConsumer> <urn:uuid:00000013-0000-4000-8004-000000",
+    "<http://iec.ch/TC57/CIM100#EnergyConsumerPhase.phase> <http://iec.ch/TC57/CIM100#SinglePhaseKind.",
+);
+
+/// The phases, and the digits that the identifiers of their phase objects have.
+const PHASES: &[(&str, &str)] = &[("A", "10"), ("B", "11"), ("C", "12"), ("N", "13")];
+
+/// Appends a statement: the end of its subject's identifier, the property, and the end of what is said, each in pieces.
+fn push_statement(
     text: &mut String,
-    kind: &str,
-    before: &str,
-    number: &str,
-    class: &str,
+    subject: &[&str],
+    prop: &str,
+    said: &[&str],
 ) -> Result<(), NoMemory> {
-    push_id(text, kind, before, number)?;
-    text.push_str(" <http://www.w3.org/1999/02/22-rdf-syntax-ns#type> ")?;
-    push_name(text, class, "")
+    text.push_str(ID_BEGIN)?;
+    push_pieces(text, subject)?;
+    push_pieces(text, &["> ", prop])?;
+    push_pieces(text, said)?;
+    text.push_str("> .\n")
 }
 
 /// Appends a terminal, whose own digits are the kind of its equipment and which of its terminals it is.
@@ -122,117 +132,80 @@ fn push_terminal(
     which: &str,
     node: &str,
 ) -> Result<(), NoMemory> {
-    let mut own = String::from_str(*text.allocator(), "0000")?;
-    own.push_str(kind)?;
-    own.push_str(which)?;
-    let before = own.as_str();
-    push_type(text, "7", before, number, "Terminal")?;
-    push_id(text, "7", before, number)?;
-    push_prop(text, "Terminal.ConductingEquipment")?;
-    push_id(text, kind, "000000", number)?;
-    text.push_str(" .\n")?;
-    push_id(text, "7", before, number)?;
-    push_prop(text, "Terminal.ConnectivityNode")?;
-    push_id(text, "0", "000000", node)?;
-    text.push_str(" .\n")?;
-    Ok(())
+    let terminal = ["7-0000", kind, which, number];
+    push_statement(text, &terminal, CLASS, &["Terminal"])?;
+    push_statement(text, &terminal, EQUIPMENT, &[kind, "-000000", number])?;
+    push_statement(text, &terminal, NODE, &[node])
 }
 
 /// Appends a phase object of a piece of equipment for each of its phases.
 fn push_parts(
     text: &mut String,
-    class: &str,
-    names: &str,
+    (class, names, states): Part,
     kind: &str,
     number: &str,
     phases: &str,
 ) -> Result<(), NoMemory> {
-    for (phase, before) in [("A", "10"), ("B", "11"), ("C", "12"), ("N", "13")] {
-        if !phases.contains(phase) {
+    for (phase, digits) in PHASES {
+        if !phases.contains(*phase) {
             continue;
         }
-        let mut own = String::from_str(*text.allocator(), "000")?;
-        own.push_str(kind)?;
-        own.push_str(before)?;
-        push_type(text, "8", own.as_str(), number, class)?;
-        push_id(text, "8", own.as_str(), number)?;
-        push_prop(text, names)?;
-        push_id(text, kind, "000000", number)?;
-        text.push_str(" .\n")?;
-        push_id(text, "8", own.as_str(), number)?;
-        text.push_str(" <http://iec.ch/TC57/CIM100#")?;
-        text.push_str(class)?;
-        text.push_str(".phase> ")?;
-        push_name(text, "SinglePhaseKind.", phase)?;
+        let part = ["8-000", kind, digits, number];
+        push_statement(text, &part, CLASS, &[class])?;
+        push_statement(text, &part, names, &[number])?;
+        push_statement(text, &part, states, &[phase])?;
     }
     Ok(())
 }
 
-/// The feeder.
-fn feeder(alloc: Global) -> Result<String, NoMemory> {
-    let mut text = String::new(alloc);
+fn push_nodes(text: &mut String) -> Result<(), NoMemory> {
     for node in NODES {
-        push_type(&mut text, "0", "000000", node, "ConnectivityNode")?;
+        push_statement(text, &["0-000000", node], CLASS, &["ConnectivityNode"])?;
     }
-    push_type(&mut text, "5", "000000", "000115", "EnergySource")?;
-    push_terminal(&mut text, "5", "000115", "1", "000115")?;
-    for (kind, number, class, from, to) in BETWEEN {
-        push_type(&mut text, kind, "000000", number, class)?;
-        push_terminal(&mut text, kind, number, "1", from)?;
-        push_terminal(&mut text, kind, number, "2", to)?;
-    }
-    for (number, from, to, phases) in LINES {
-        push_type(&mut text, "1", "000000", number, "ACLineSegment")?;
-        push_terminal(&mut text, "1", number, "1", from)?;
-        push_terminal(&mut text, "1", number, "2", to)?;
-        push_parts(
-            &mut text,
-            "ACLineSegmentPhase",
-            "ACLineSegmentPhase.ACLineSegment",
-            "1",
-            number,
-            phases,
-        )?;
-    }
-    push_loads(&mut text)?;
-    Ok(text)
+    Ok(())
 }
 
-/// Appends the loads and the capacitors, which are of a class that the profile does not know.
-fn push_loads(text: &mut String) -> Result<(), NoMemory> {
-    for (number, phases) in LOADS {
-        push_type(text, "4", "000000", number, "EnergyConsumer")?;
-        push_terminal(text, "4", number, "1", number)?;
-        push_parts(
-            text,
-            "EnergyConsumerPhase",
-            "EnergyConsumerPhase.EnergyConsumer",
-            "4",
-            number,
-            phases,
-        )?;
+fn push_between(text: &mut String) -> Result<(), NoMemory> {
+    for (kind, number, class, from, to, phases) in BETWEEN {
+        push_statement(text, &[kind, "-000000", number], CLASS, &[class])?;
+        push_terminal(text, kind, number, "1", from)?;
+        push_terminal(text, kind, number, "2", to)?;
+        push_parts(text, LINE_PART, kind, number, phases)?;
     }
-    for number in ["000611", "000675"] {
-        push_type(text, "6", "000000", number, "LinearShuntCompensator")?;
-        push_terminal(text, "6", number, "1", number)?;
+    Ok(())
+}
+
+fn push_single(text: &mut String) -> Result<(), NoMemory> {
+    for (kind, number, class, phases) in SINGLE {
+        push_statement(text, &[kind, "-000000", number], CLASS, &[class])?;
+        push_terminal(text, kind, number, "1", number)?;
+        push_parts(text, LOAD_PART, kind, number, phases)?;
     }
-    push_id(text, "7", "000061", "000611")?;
-    push_prop(text, "Terminal.phases")?;
-    push_name(text, "PhaseCode.", "C")
+    Ok(())
+}
+
+/// The feeder, one of whose capacitors is in phase C alone.
+fn feeder(alloc: Global) -> Result<String, NoMemory> {
+    let mut text = String::new(alloc);
+    push_nodes(&mut text)?;
+    push_between(&mut text)?;
+    push_single(&mut text)?;
+    push_statement(&mut text, &["7-000061000611"], TERMINAL_PHASES, &["C"])?;
+    Ok(text)
 }
 
 #[test]
 fn traces_the_feeder_per_phase(rt: HostRuntime) -> Result<(), Fail> {
-    let alloc = rt.alloc();
-    let mut files = Files::empty(alloc);
-    files.add("feeder", feeder(alloc)?.as_bytes())?;
-    let mut shelf = MemShelf::new(alloc, files, &[])?;
-    let mut out = MemSink::new(alloc, 2000, &[])?;
-    let command = words(
-        alloc,
-        "trace feeder 00000013-0000-4000-8005-000000000115 ABC",
-    )?;
-    assert!(rt; run_plain(alloc, &command, &mut shelf, &mut out) == Status::Ok);
-    assert!(rt; out.written() == TRACE.as_bytes());
+    let base = feeder(rt.alloc())?;
+    let command = "trace base 00000013-0000-4000-8005-000000000115 ABC";
+    assert!(rt;
+        writes(
+            rt.alloc(),
+            base.as_bytes(),
+            command,
+            Status::Ok,
+            TRACE.as_bytes()
+        )?
+    );
     Ok(())
 }
