@@ -209,6 +209,19 @@ fn are_traced(alloc: Global, graph: &Graph, plain: &Plain) -> Result<bool, NoMem
     Ok(true)
 }
 
+/// Whether traces of the network under an overlay are those of the plain program.
+fn is_right(
+    alloc: Global,
+    index: &Index,
+    overlay: &Overlay,
+    plain: &Plain,
+) -> Result<bool, NoMemory>
+    requires { Stands index.now overlay.now }
+{
+    let graph = graph_of::<Brand>(alloc, index, overlay, Blank::new(1))?;
+    are_traced(alloc, &graph, plain)
+}
+
 /// How many of the fourteen refusals came: a bit for each but Crowded and Full, for which the network is too small.
 fn bit_of(why: ActRefusal) -> u16 {
     match why {
@@ -264,8 +277,10 @@ fn answers_as_the_plain_program(rt: HostRuntime) -> Result<(), Fail> {
         assert!(rt; is_same(&overlay, &plain), "after act {number}");
         if want.is_none() {
             assert!(rt; overlay_stands(&index, &overlay), "after act {number}");
-            let graph = graph_of::<Brand>(alloc, &index, &overlay, Blank::new(1))?;
-            assert!(rt; are_traced(alloc, &graph, &plain)?, "after act {number}");
+            assert!(rt;
+                is_right(alloc, &index, &overlay, &plain)?,
+                "after act {number}"
+            );
         }
     }
     assert!(rt; came == 4095, "{came}");

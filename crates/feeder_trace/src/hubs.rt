@@ -8,8 +8,8 @@ ghost use Rattle.feeder_trace.specs.Hubs.{Adds, AreNumbered, HasAll, IsPlaceOf, 
 ghost use Rattle.feeder_trace.specs.declared.hub.Hub.{Hub};
 
 use crate::hub::{Hub, hubs_are_compared};
-use crate::visited::Visited;
 use crate::phases::without;
+use crate::visited::Visited;
 use cim_words::{Id, NoMemory, PhaseSet};
 use graph_pages::{Graph, Pass, Spoke};
 use indexmap::IndexSet;

@@ -7,9 +7,9 @@ ghost use Rattle.room_words.specs.declared.term.Term.{Term};
 ghost use Rattle.feeder_trace.specs.Search.{IsAt, IsPopped, IsSet, MarksAll, AtTerm};
 
 use crate::capacity::{put_within, times};
-use crate::visited::Visited;
 use crate::phases::without;
 use crate::terminals::Terminals;
+use crate::visited::Visited;
 use cim_words::{NoMemory, PhaseSet};
 use graph_pages::Term;
 use std::alloc::Global;

@@ -69,15 +69,35 @@ const CLASSES: [(&str, Groups); 24] = [
 
 /// Each property but the type, which counts on all classes, and the class on which it counts, or `switch` for all switches.
 const PROPERTIES: [(KnownProp, &str, &str); 19] = [
-    (KnownProp::CONDUCTING_EQUIPMENT, "Terminal.ConductingEquipment", "Terminal"),
-    (KnownProp::CONNECTIVITY_NODE, "Terminal.ConnectivityNode", "Terminal"),
+    (
+        KnownProp::CONDUCTING_EQUIPMENT,
+        "Terminal.ConductingEquipment",
+        "Terminal",
+    ),
+    (
+        KnownProp::CONNECTIVITY_NODE,
+        "Terminal.ConnectivityNode",
+        "Terminal",
+    ),
     (KnownProp::PHASES, "Terminal.phases", "Terminal"),
-    (KnownProp::SEQUENCE_NUMBER, "ACDCTerminal.sequenceNumber", "Terminal"),
+    (
+        KnownProp::SEQUENCE_NUMBER,
+        "ACDCTerminal.sequenceNumber",
+        "Terminal",
+    ),
     (KnownProp::NORMAL_OPEN, "Switch.normalOpen", "switch"),
     (KnownProp::SWITCH_OPEN, "Switch.open", "switch"),
-    (KnownProp::CONDUCTOR_LENGTH, "Conductor.length", "ACLineSegment"),
+    (
+        KnownProp::CONDUCTOR_LENGTH,
+        "Conductor.length",
+        "ACLineSegment",
+    ),
     (KnownProp::CLAMP_SEGMENT, "Clamp.ACLineSegment", "Clamp"),
-    (KnownProp::CLAMP_LENGTH, "Clamp.lengthFromTerminal1", "Clamp"),
+    (
+        KnownProp::CLAMP_LENGTH,
+        "Clamp.lengthFromTerminal1",
+        "Clamp",
+    ),
     (KnownProp::CUT_SEGMENT, "Cut.ACLineSegment", "Cut"),
     (KnownProp::CUT_LENGTH, "Cut.lengthFromTerminal1", "Cut"),
     (
@@ -100,10 +120,26 @@ const PROPERTIES: [(KnownProp, &str, &str); 19] = [
         "EnergyConsumerPhase.phase",
         "EnergyConsumerPhase",
     ),
-    (KnownProp::SWITCH_OF_PHASE, "SwitchPhase.Switch", "SwitchPhase"),
-    (KnownProp::SWITCH_PHASE_CLOSED, "SwitchPhase.closed", "SwitchPhase"),
-    (KnownProp::PHASE_SIDE_1, "SwitchPhase.phaseSide1", "SwitchPhase"),
-    (KnownProp::PHASE_SIDE_2, "SwitchPhase.phaseSide2", "SwitchPhase"),
+    (
+        KnownProp::SWITCH_OF_PHASE,
+        "SwitchPhase.Switch",
+        "SwitchPhase",
+    ),
+    (
+        KnownProp::SWITCH_PHASE_CLOSED,
+        "SwitchPhase.closed",
+        "SwitchPhase",
+    ),
+    (
+        KnownProp::PHASE_SIDE_1,
+        "SwitchPhase.phaseSide1",
+        "SwitchPhase",
+    ),
+    (
+        KnownProp::PHASE_SIDE_2,
+        "SwitchPhase.phaseSide2",
+        "SwitchPhase",
+    ),
 ];
 
 /// Other IRIs, which name neither a class nor a property of the profile.
