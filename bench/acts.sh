@@ -1,71 +1,138 @@
 #!/usr/bin/env bash
 # How long the judgement of switching orders takes, on feeders of three sizes: bench/acts.sh.
-# For each size it prints the seconds for 40,000 orders that are each judged on the empty overlay, and for 4,096 orders that fill one.
-# The time of an order does not grow with the network where the lines agree. It runs unproved, in a copy of the repository.
+# For each size it prints the milliseconds for 40,000 orders that are each judged on the empty overlay, and for 4,096 orders that fill
+# one. The time of an order does not grow with the network where the lines agree. A small program over `switching` is proved and built
+# for it in a copy of the repository, in a minute where the crates below are proved already.
 set -eu
 top="$(cd "$(dirname "${BASH_SOURCE[0]}")/.." && pwd)"
 copy="$(mktemp -d)"
 trap 'rm -rf "$copy"' EXIT
 (cd "$top" && tar -cf - --exclude=out --exclude=.git .) | tar -xf - -C "$copy"
 git -C "$copy" init -q
-mkdir -p "$copy/crates/act_bench/src"
-echo "act_bench: cim_words nt_text statement_set cim_records room_words switching" >> "$copy/crates.txt"
-cat > "$copy/crates/act_bench/src/main.rt" <<'RATTLE'
+bench="$copy/crates/act_bench"
+mkdir -p "$bench/src" "$bench/proofs/filled" "$bench/proofs/is_accepted"
+echo "act_bench: cim_words cim_model nt_text statement_set cim_profile cim_records room_words act_laws switching" >> "$copy/crates.txt"
+: > "$bench/proofs/Lib.antt"
+cat > "$bench/src/main.rt" <<'RATTLE'
 //! Judges many switching orders on a base, and prints how long that took.
 #![tactic(auto)]
 
+ghost use Rattle.std.specs.Prelude.{◌<◌, length};
+ghost use Rattle.cim_model.specs.Stands.{Stands};
+
+use act_laws::accepted_acts_stand;
+use cim_model::the_empty_overlay_stands;
+use cim_profile::first_break;
 use cim_records::Index;
-use cim_words::{Class, Id, Length, PhaseSet};
+use cim_words::{Class, Id, Length, NoMemory, PhaseSet, Statements};
 use nt_text::read_document;
 use room_words::{Act, Anchor, Overlay};
-use statement_set::StatementSet;
+use statement_set::{SetRefusal, StatementSet};
 use std::alloc::Global;
-use std::env;
 use std::fs;
 use std::process::ExitCode;
 use std::time::Instant;
 use switching::judge;
 
-fn id_of(number: u128) -> Id {
-    Id::of((1 << 100) + number)
-}
-
-/// The k-th of the orders: cuts, clamps, jumpers from a cut to a node, and grounds, on segments one after another.
-fn act_of(segments: &[Id], nodes: &[Id], k: usize) -> Act {
-    let new_id = id_of(k as u128);
-    let segment = segments[k % segments.len()];
-    let node = Anchor::Node(nodes[k % nodes.len()]);
-    let length = Length { mm: 1000 + (k / 4 % 90_000) as u64 };
+/// The k-th of the orders: cuts, clamps, jumpers between nodes, and grounds, on segments one after another.
+fn act_of(segment: Id, node: Id, next: Id, k: u64) -> Act {
+    let new_id = Id::of((1 << 100) | u128::from(k));
+    let length = Length {
+        mm: 1000 + k / 4 % 90_000,
+    };
     match k % 4 {
-        0 => Act::Cut { new_id, segment, length },
-        1 => Act::Clamp { new_id, segment, length },
+        0 => Act::Cut {
+            new_id,
+            segment,
+            length,
+        },
+        1 => Act::Clamp {
+            new_id,
+            segment,
+            length,
+        },
         2 => Act::Jumper {
             new_id,
-            first: node,
-            second: Anchor::Node(nodes[(k + 1) % nodes.len()]),
+            first: Anchor::Node(node),
+            second: Anchor::Node(next),
             phases: PhaseSet::ABC,
         },
-        _ => Act::Ground { new_id, at: node, phases: PhaseSet::ABC },
+        _ => Act::Ground {
+            new_id,
+            at: Anchor::Node(node),
+            phases: PhaseSet::ABC,
+        },
     }
 }
 
-/// How many of so many orders are accepted, each on the empty overlay.
-fn judged(alloc: Global, index: &Index, segments: &[Id], nodes: &[Id], count: usize) -> usize {
-    let overlay = Overlay::empty(alloc);
-    (0..count)
-        .filter(|k| judge(alloc, index, &overlay, &act_of(segments, nodes, *k)).is_ok())
-        .count()
-}
-
-/// How many of so many orders are accepted, each on what the ones before it left.
-fn filled(alloc: Global, index: &Index, segments: &[Id], nodes: &[Id], count: usize) -> usize {
-    let mut overlay = Overlay::empty(alloc);
-    for k in 0..count {
-        if let Ok(next) = judge(alloc, index, &overlay, &act_of(segments, nodes, k)) {
-            overlay = next;
+/// So many orders.
+fn acts(alloc: Global, index: &Index, count: u64) -> Result<Vec<Act>, NoMemory> {
+    let mut segments = Vec::new(alloc);
+    for id in index.equipment() {
+        if index.class_of(*id) == Some(Class::ACLineSegment) {
+            segments.push(*id)?;
         }
     }
+    let nodes = index.nodes();
+    let mut acts = Vec::new(alloc);
+    for k in 0..count {
+        let at = k as usize;
+        if segments.is_empty() || nodes.is_empty() {
+            return Ok(acts);
+        }
+        let node = nodes[at % nodes.len()];
+        let next = nodes[at.wrapping_add(1) % nodes.len()];
+        acts.push(act_of(segments[at % segments.len()], node, next, k))?;
+    }
+    Ok(acts)
+}
+
+/// How many of the orders are accepted, each on the empty overlay.
+fn judged(alloc: Global, index: &Index, acts: &[Act]) -> usize {
+    let mut accepted = 0_usize;
+    for act in acts {
+        if is_accepted(alloc, index, act) {
+            accepted = accepted.wrapping_add(1);
+        }
+    }
+    accepted
+}
+
+fn is_accepted(alloc: Global, index: &Index, act: &Act) -> bool {
+    the_empty_overlay_stands();
+    let overlay = Overlay::empty(alloc);
+    judge(alloc, index, &overlay, act).is_ok()
+}
+
+/// The overlay after an order.
+fn after(alloc: Global, index: &Index, overlay: Overlay, act: &Act) -> Overlay
+    requires { Stands index.now overlay }
+    ensures { Stands index.now result }
+{
+    accepted_acts_stand();
+    index.set();
+    match judge(alloc, index, &overlay, act) {
+        Ok(next) => next,
+        Err(_) => overlay,
+    }
+}
+
+/// How many items there are after orders, each on what the ones before it left.
+fn filled(alloc: Global, index: &Index, acts: &[Act]) -> usize {
+    the_empty_overlay_stands();
+    let mut overlay = Overlay::empty(alloc);
+    for act in acts {
+        overlay = after(alloc, index, overlay, act);
+    }
     overlay.items.len()
+}
+
+fn index_of(alloc: Global, statements: Statements) -> Result<Option<Index>, SetRefusal> {
+    let set = StatementSet::from_list(alloc, statements)?;
+    match first_break(alloc, &set)? {
+        Some(_) => Ok(None),
+        None => Ok(Some(Index::build(alloc, &set)?)),
+    }
 }
 
 fn main(rt: HostRuntime) -> ExitCode {
@@ -73,35 +140,69 @@ fn main(rt: HostRuntime) -> ExitCode {
     let Ok(bytes) = fs::read(&rt, "base.nt") else {
         return ExitCode::from(2);
     };
+    if bytes.len() > 1_000_000_000 {
+        return ExitCode::from(2);
+    }
     let Ok(statements) = read_document(alloc, &bytes) else {
         return ExitCode::from(3);
     };
-    let Ok(set) = StatementSet::from_list(alloc, statements) else {
+    let Ok(Some(index)) = index_of(alloc, statements) else {
+        return ExitCode::from(3);
+    };
+    let Ok(many) = acts(alloc, &index, 40_000) else {
         return ExitCode::from(4);
     };
-    let Ok(index) = Index::build(alloc, &set) else {
+    let Ok(some) = acts(alloc, &index, 4_096) else {
+        return ExitCode::from(4);
+    };
+    let Ok(start) = Instant::now(&rt) else {
         return ExitCode::from(5);
     };
-    let segments = index
-        .equipment()
-        .iter()
-        .copied()
-        .filter(|id| index.class_of(*id) == Some(Class::ACLineSegment))
-        .collect::<Vec<Id>>(alloc)
-        .unwrap();
-    let nodes = index.nodes();
-    for (what, run) in [("empty", judged as fn(Global, &Index, &[Id], &[Id], usize) -> usize), ("full", filled)] {
-        let count = if what == "empty" { 40_000 } else { 4096 };
-        let start = Instant::now(&rt).unwrap();
-        let accepted = run(alloc, &index, &segments, nodes, count);
-        let took = start.elapsed(&rt).unwrap();
-        let _ = println!(&rt; "{} statements, {what} overlay: {accepted} of {count} accepted, {} ms", set.len(), took.as_millis());
-    }
+    let accepted = judged(alloc, &index, &many);
+    let Ok(took) = start.elapsed(&rt) else {
+        return ExitCode::from(5);
+    };
+    let _ = println!(&rt; "empty overlay: {accepted} of 40000 accepted, {} ms", took.as_millis());
+    let Ok(start) = Instant::now(&rt) else {
+        return ExitCode::from(5);
+    };
+    let items = filled(alloc, &index, &some);
+    let Ok(took) = start.elapsed(&rt) else {
+        return ExitCode::from(5);
+    };
+    let _ = println!(&rt; "full overlay: {items} of 4096 accepted, {} ms", took.as_millis());
     ExitCode::from(0)
 }
 RATTLE
+cat > "$bench/proofs/filled/Invariants.antt" <<'ANTT'
+use Rattle.cim_model.specs.Stands.{Stands}
+use Rattle.act_bench.proofs.filled.Given as goal
+
+abbrev pub invariant-loop-act : goal.invariant-loop-act
+invariant-loop-act l = Stands l.index l.overlay
+ANTT
+cat > "$bench/proofs/filled/Answers.antt" <<'ANTT'
+use Rattle.std.proofs.Common.{subst, sym}
+use Rattle.cim_model.specs.Stands.{Stands}
+use Rattle.act_bench.proofs.filled.Goals as goal
+
+pub loop-act-init : goal.loop-act-init
+loop-act-init c = subst (Stands c.args.index.now) (sym c.empty-overlay.ensures) (c.the_empty_overlay_stands.ensures c.args.index.now)
+ANTT
+cat > "$bench/proofs/is_accepted/Answers.antt" <<'ANTT'
+use Rattle.std.proofs.Common.{subst, sym}
+use Rattle.cim_model.specs.Stands.{Stands}
+use Rattle.act_bench.proofs.is_accepted.Goals as goal
+
+pub judge-requires : goal.judge-requires
+judge-requires c = subst (Stands c.args.index.now) (sym c.empty-overlay.ensures) (c.the_empty_overlay_stands.ensures c.args.index.now)
+ANTT
+# Without a base the program ends with code 2, but it is built.
+(cd "$bench" && rt run > "$copy/build.log" 2>&1) || true
+[ -x "$bench/out/act_bench" ] || { tail -n 20 "$copy/build.log" >&2; exit 1; }
+cd "$copy"
 for segments in 1000 10000 50000; do
-    python3 - "$segments" > "$copy/base.nt" <<'PYTHON'
+    python3 - "$segments" > base.nt <<'PYTHON'
 import sys
 
 count = int(sys.argv[1])
@@ -135,5 +236,6 @@ for number in range(count):
     terminal(2 * number + 1, segment, number + 1, 2)
 sys.stdout.write("".join(out))
 PYTHON
-    (cd "$copy/crates/act_bench" && rt try --seconds 600 --data "base.nt=$copy/base.nt" | grep -v '^run=')
+    echo "$segments segments, $(wc -l < base.nt) statements"
+    "$bench/out/act_bench"
 done
