@@ -17,7 +17,7 @@ const V: &str = r#"<urn:uuid:00000000-0000-0000-0000-0000000000a1> <http://x/p> 
 const NAME: &str = r#"<urn:uuid:00000000-0000-0000-0000-0000000000a1> <http://x/p> <b> ."#;
 
 /// The lines whose subject is written as usual, and what each reads as after that subject.
-const BEHIND_SUBJECT: [(&str, &str); 39] = [
+const AFTER_SUBJECT: &[(&str, &str)] = &[
     (r#" <http://x/p> "v" ."#, r#" <http://x/p> "v" ."#),
     (r#"<http://x/p>"v"."#, r#" <http://x/p> "v" ."#),
     ("\t<http://x/p>\t \"v\" \t. # v", r#" <http://x/p> "v" ."#),
@@ -66,7 +66,7 @@ const BEHIND_SUBJECT: [(&str, &str); 39] = [
 ];
 
 /// Other lines, and what each reads as.
-const LINES: [(&str, &str); 14] = [
+const LINES: &[(&str, &str)] = &[
     (V, V),
     (
         r#"<x#_00000000-0000-0000-0000-0000000000A1> <http://x/p> "v" ."#,
@@ -110,50 +110,81 @@ fn shown(alloc: Global, line: &[u8]) -> Result<Vec<u8>, NoMemory> {
     }
 }
 
+/// Whether a line reads as this.
+fn reads(alloc: Global, line: &str, want: &str) -> Result<bool, NoMemory> {
+    Ok(shown(alloc, line.as_bytes())?.as_slice() == want.as_bytes())
+}
+
+/// Whether a line behind the subject reads as this, which stands behind the subject too where it is a line.
+fn reads_behind(alloc: Global, line: &str, want: &str) -> Result<bool, NoMemory> {
+    let line = [SUBJECT, line].concat(alloc)?;
+    let subject = if want.starts_with(' ') { SUBJECT } else { "" };
+    let want = [subject, want].concat(alloc)?;
+    reads(alloc, &line, &want)
+}
+
 #[test]
-fn reads_lines(rt: HostRuntime) -> Result<(), Fail> {
-    let alloc = rt.alloc();
-    for (line, want) in BEHIND_SUBJECT {
-        let line = format!(in alloc; "{SUBJECT}{line}")?;
-        let want = if want.starts_with(' ') {
-            format!(in alloc; "{SUBJECT}{want}")?
-        } else {
-            format!(in alloc; "{want}")?
-        };
-        assert!(rt;
-            shown(alloc, line.as_bytes())?.as_slice() == want.as_bytes(),
-            "{line}"
-        );
-    }
-    for (line, want) in LINES {
-        assert!(rt;
-            shown(alloc, line.as_bytes())?.as_slice() == want.as_bytes(),
-            "{line}"
-        );
+fn reads_behind_the_subject(rt: HostRuntime) -> Result<(), Fail> {
+    for (line, want) in AFTER_SUBJECT {
+        assert!(rt; reads_behind(rt.alloc(), line, want)?, "{line}");
     }
     Ok(())
+}
+
+#[test]
+fn reads_lines(rt: HostRuntime) -> Result<(), Fail> {
+    for (line, want) in LINES {
+        assert!(rt; reads(rt.alloc(), line, want)?, "{line}");
+    }
+    Ok(())
+}
+
+/// The beginning and the end of lines, how many bytes they have with letters between, and what they read as.
+const LIMITS: &[(&str, &str, usize, &str)] = &[
+    (
+        COMMENTED,
+        "",
+        LINE_LIMIT,
+        "<urn:uuid:00000000-0000-0000-0000-0000000000a1> <p> <b> .",
+    ),
+    (COMMENTED, "", LINE_LIMIT + 1, "LineTooLong"),
+    (
+        "<#_00000000-0000-0000-0000-0000000000a1> <p> \"",
+        "\" .",
+        LINE_LIMIT,
+        "Wide",
+    ),
+];
+
+const COMMENTED: &str = "<#_00000000-0000-0000-0000-0000000000a1> <p> <b> . #";
+
+/// Whether a line of so many bytes reads as this.
+fn reads_filled(
+    alloc: Global,
+    begin: &str,
+    end: &str,
+    length: usize,
+    want: &str,
+) -> Result<bool, NoMemory> {
+    let count = length.saturating_sub(begin.len()).saturating_sub(end.len());
+    let letters = "x".repeat(alloc, count)?;
+    let line = [begin, letters.as_str(), end].concat(alloc)?;
+    Ok(line.len() == length && reads(alloc, &line, want)?)
 }
 
 #[test]
 fn keeps_to_limits(rt: HostRuntime) -> Result<(), Fail> {
-    let alloc = rt.alloc();
-    let mut line = Vec::new(alloc);
-    line.extend_from_slice(b"<#_00000000-0000-0000-0000-0000000000a1> <p> <b> . #")?;
-    line.resize(LINE_LIMIT, b'x')?;
-    assert!(rt; read_line(alloc, &line)?.is_some());
-    line.push(b'x')?;
-    assert_eq!(rt; shown(alloc, &line)?.as_slice(), b"LineTooLong".as_slice());
-
-    assert_eq!(rt; shown(alloc, b"# \xFF")?.as_slice(), b"Utf8".as_slice());
-    line.clear();
-    line.extend_from_slice(b"<#_00000000-0000-0000-0000-0000000000a1> <p> \"")?;
-    line.resize(LINE_LIMIT - 3, b'x')?;
-    line.extend_from_slice(b"\" .")?;
-    assert_eq!(rt; shown(alloc, &line)?.as_slice(), b"Wide".as_slice());
+    for (begin, end, length, want) in LIMITS {
+        assert!(rt;
+            reads_filled(rt.alloc(), begin, end, *length, want)?,
+            "{want}"
+        );
+    }
+    assert!(rt; shown(rt.alloc(), b"# \xFF")?.as_slice() == b"Utf8".as_slice());
     Ok(())
 }
 
-const WRITTEN: [&str; 5] = [
+const WRITTEN: &[&str] = &[
     r#"<urn:uuid:00000000-0000-4000-8000-0000000000a1> <http://www.w3.org/1999/02/22-rdf-syntax-ns#type> <http://iec.ch/TC57/CIM100#Terminal> ."#,
     r#"<urn:uuid:00000000-0000-4000-8000-0000000000a1> <http://iec.ch/TC57/CIM100#Terminal.ConnectivityNode> <urn:uuid:ffffffff-ffff-ffff-ffff-ffffffffffff> ."#,
     r#"<urn:uuid:00000000-0000-4000-8000-0000000000a1> <http://x/p> "a\"b\\c\nd\re> ." ."#,
@@ -161,7 +192,7 @@ const WRITTEN: [&str; 5] = [
     r#"<urn:uuid:00000000-0000-4000-8000-0000000000a1> <> "" ."#,
 ];
 
-const OTHER: [&str; 12] = [
+const OTHER: &[&str] = &[
     "",
     r#"<urn:uuid:00000000-0000-4000-8000-0000000000A1> <http://x/p> "v" ."#,
     r#"<http://x#_00000000-0000-4000-8000-0000000000a1> <http://x/p> "v" ."#,
@@ -176,28 +207,35 @@ const OTHER: [&str; 12] = [
     r#"_:b <http://x/p> "v" ."#,
 ];
 
+/// Whether a line is the written form of a statement, and of which: of the one that is written so.
+fn is_written(alloc: Global, line: &str) -> Result<bool, NoMemory> {
+    match read_written(alloc, line.as_bytes())? {
+        Some(statement) => Ok(line_of(alloc, &statement)?.as_slice() == line.as_bytes()),
+        None => Ok(false),
+    }
+}
+
+#[test]
+fn reads_what_is_written(rt: HostRuntime) -> Result<(), Fail> {
+    for line in WRITTEN {
+        assert!(rt; is_written(rt.alloc(), line)?, "{line}");
+    }
+    Ok(())
+}
+
 #[test]
 fn one_spelling(rt: HostRuntime) -> Result<(), Fail> {
-    let alloc = rt.alloc();
-    for line in WRITTEN {
-        match read_written(alloc, line.as_bytes())? {
-            Some(statement) => {
-                assert!(rt;
-                    line_of(alloc, &statement)?.as_slice() == line.as_bytes(),
-                    "{line}"
-                )
-            }
-            None => assert!(rt; false, "{line}"),
-        }
-    }
     for line in OTHER {
-        assert!(rt; read_written(alloc, line.as_bytes())?.is_none(), "{line}");
+        assert!(rt;
+            read_written(rt.alloc(), line.as_bytes())?.is_none(),
+            "{line}"
+        );
     }
     Ok(())
 }
 
 // Documents, how many statements stand before the first bad line, and that line.
-const DOCUMENTS: [(&str, usize, Option<(u32, LineRefusal)>); 10] = [
+const DOCUMENTS: &[(&str, usize, Option<(u32, LineRefusal)>)] = &[
     ("", 0, None),
     ("\r\n\n\r \t", 0, None),
     ("# a comment\r# and another\n\r", 0, None),
@@ -244,20 +282,40 @@ fn feed_pieces(
     reader.finish(into)
 }
 
-#[test]
-fn read_however_cut(rt: HostRuntime) -> Result<(), Fail> {
-    let alloc = rt.alloc();
-    for (document, count, bad) in DOCUMENTS {
-        let fault = bad.map(|(line, why)| NtFault::Line { line, why });
-        assert!(rt; document.len() < 1000);
-        for size in 1..document.len() + 2 {
-            let mut found = Statements::empty(alloc);
-            let mut reader = LineReader::new(alloc);
-            let read = feed_pieces(&mut reader, document.as_bytes(), size, &mut found);
-            assert_eq!(rt; read.err(), fault);
-            assert_eq!(rt; found.len(), count);
-            assert_eq!(rt; reader.finish(&mut found).err(), fault);
+/// Whether a document that is cut into pieces of a size has so many statements before this fault, if any.
+fn is_read_cut(
+    alloc: Global,
+    document: &[u8],
+    size: usize,
+    count: usize,
+    fault: Option<NtFault>,
+) -> bool {
+    if document.len() >= 1000 || size == 0 {
+        return false;
+    }
+    let mut found = Statements::empty(alloc);
+    let mut reader = LineReader::new(alloc);
+    let read = feed_pieces(&mut reader, document, size, &mut found);
+    read.err() == fault && found.len() == count && reader.finish(&mut found).err() == fault
+}
+
+/// Whether that is so of pieces of each size.
+fn is_read(alloc: Global, document: &[u8], count: usize, fault: Option<NtFault>) -> bool {
+    for size in 1..document.len() + 2 {
+        if !is_read_cut(alloc, document, size, count, fault) {
+            return false;
         }
     }
-    Ok(())
+    true
+}
+
+#[test]
+fn read_however_cut(rt: HostRuntime) {
+    for (document, count, bad) in DOCUMENTS {
+        let fault = bad.map(|(line, why)| NtFault::Line { line, why });
+        assert!(rt;
+            is_read(rt.alloc(), document.as_bytes(), *count, fault),
+            "{document}"
+        );
+    }
 }

@@ -40,7 +40,7 @@ const PHASE_OBJECT: Groups = [
 ];
 
 /// Each class and its group.
-const CLASSES: [(&str, Groups); 24] = [
+const CLASSES: &[(&str, Groups)] = &[
     ("ACLineSegment", SEGMENT),
     ("Switch", SWITCH),
     ("Breaker", SWITCH),
@@ -68,7 +68,7 @@ const CLASSES: [(&str, Groups); 24] = [
 ];
 
 /// Each property but the type, which counts on all classes, and the class on which it counts, or `switch` for all switches.
-const PROPERTIES: [(KnownProp, &str, &str); 19] = [
+const PROPERTIES: &[(KnownProp, &str, &str)] = &[
     (
         KnownProp::CONDUCTING_EQUIPMENT,
         "Terminal.ConductingEquipment",
@@ -143,7 +143,7 @@ const PROPERTIES: [(KnownProp, &str, &str); 19] = [
 ];
 
 /// Other IRIs, which name neither a class nor a property of the profile.
-const OTHERS: [&str; 8] = [
+const OTHERS: &[&str] = &[
     "",
     "Breaker",
     "http://iec.ch/TC57/CIM100#",
@@ -203,7 +203,7 @@ fn class_named(alloc: Global, name: &str) -> Result<Class, NoMemory> {
 fn classes_have_their_groups(rt: HostRuntime) -> Result<(), NoMemory> {
     for (name, groups) in CLASSES {
         let class = class_named(rt.alloc(), name)?;
-        assert!(rt; groups_of(class) == groups, "{name}");
+        assert!(rt; groups_of(class) == *groups, "{name}");
         assert!(rt; tests_of(class) == tests_for(name), "{name}");
         assert!(rt; class.is_known(), "{name}");
     }
@@ -236,11 +236,11 @@ fn is_named(alloc: Global, known: KnownProp, iri: &str) -> Result<bool, NoMemory
 fn properties_count_on_their_classes(rt: HostRuntime) -> Result<(), NoMemory> {
     let alloc = rt.alloc();
     assert!(rt; is_named(alloc, KnownProp::RDF_TYPE, TYPE)?);
-    assert!(rt; counts_on_listed(alloc, KnownProp::RDF_TYPE, "", &CLASSES)?);
+    assert!(rt; counts_on_listed(alloc, KnownProp::RDF_TYPE, "", CLASSES)?);
     for (known, name, on) in PROPERTIES {
         let iri = format!(in alloc; "{NAMESPACE}{name}")?;
-        assert!(rt; is_named(alloc, known, &iri)?, "{name}");
-        assert!(rt; counts_on_listed(alloc, known, on, &CLASSES)?, "{name}");
+        assert!(rt; is_named(alloc, *known, &iri)?, "{name}");
+        assert!(rt; counts_on_listed(alloc, *known, on, CLASSES)?, "{name}");
     }
     Ok(())
 }

@@ -15,7 +15,7 @@ const LOWER: &str = "01234567-89ab-cdef-fedc-ba9876543210";
 const NUMBER: Option<u128> = Some(0x0123_4567_89ab_cdef_fedc_ba98_7654_3210);
 
 /// Texts, and the number that each spells as a plain identifier and as an IRI.
-const IDENTIFIERS: [(&str, Option<u128>, Option<u128>); 21] = [
+const IDENTIFIERS: &[(&str, Option<u128>, Option<u128>)] = &[
     (LOWER, NUMBER, None),
     ("01234567-89AB-CDEF-FEDC-BA9876543210", NUMBER, None),
     ("00000000-0000-0000-0000-000000000000", Some(0), None),
@@ -59,26 +59,26 @@ const IDENTIFIERS: [(&str, Option<u128>, Option<u128>); 21] = [
     ("urn:uuid:01234567-89ab-cdef-fedc-ba987654321", None, None),
 ];
 
+fn plain_number(text: &str) -> Option<u128> {
+    Some(Id::read_plain(text).ok()?.number)
+}
+
+fn iri_number(text: &str) -> Option<u128> {
+    Some(Id::read_iri(text).ok()?.number)
+}
+
 #[test]
 fn identifiers(rt: HostRuntime) {
     for (text, plain, iri) in IDENTIFIERS {
-        assert_eq!(rt;
-            Id::read_plain(text).ok().map(|id| id.number),
-            plain,
-            "at {text}"
-        );
-        assert_eq!(rt;
-            Id::read_iri(text).ok().map(|id| id.number),
-            iri,
-            "at {text}"
-        );
+        assert!(rt; plain_number(text) == *plain, "plain, at {text}");
+        assert!(rt; iri_number(text) == *iri, "IRI, at {text}");
     }
     let number = NUMBER.unwrap_or(0);
-    assert_eq!(rt; Id::of(number).text().as_slice(), LOWER.as_bytes());
+    assert!(rt; Id::of(number).text().as_slice() == LOWER.as_bytes());
 }
 
 /// Texts, and the length in millimetres that each spells.
-const LENGTHS: [(&str, Option<u64>); 31] = [
+const LENGTHS: &[(&str, Option<u64>)] = &[
     ("1.2345E1", Some(12345)),
     ("0.0009", Some(0)),
     ("-0", Some(0)),
@@ -113,7 +113,7 @@ const LENGTHS: [(&str, Option<u64>); 31] = [
 ];
 
 /// Texts, and the truth value and the sequence number that each spells.
-const VALUES: [(&str, Option<bool>, Option<u32>); 14] = [
+const VALUES: &[(&str, Option<bool>, Option<u32>)] = &[
     ("true", Some(true), None),
     ("false", Some(false), None),
     ("1", Some(true), Some(1)),
@@ -130,18 +130,22 @@ const VALUES: [(&str, Option<bool>, Option<u32>); 14] = [
     ("", None, None),
 ];
 
+fn millimetres(text: &str) -> Option<u64> {
+    Some(Length::read(text).ok()?.mm)
+}
+
+#[test]
+fn lengths(rt: HostRuntime) {
+    for (text, want) in LENGTHS {
+        assert!(rt; millimetres(text) == *want, "at {text}");
+    }
+}
+
 #[test]
 fn values(rt: HostRuntime) {
-    for (text, want) in LENGTHS {
-        assert_eq!(rt;
-            Length::read(text).ok().map(|length| length.mm),
-            want,
-            "at {text}"
-        );
-    }
     for (text, truth, number) in VALUES {
-        assert_eq!(rt; read_truth(text), truth, "at {text}");
-        assert_eq!(rt; read_sequence_number(text), number, "at {text}");
+        assert!(rt; read_truth(text) == *truth, "truth, at {text}");
+        assert!(rt; read_sequence_number(text) == *number, "number, at {text}");
     }
 }
 
@@ -176,7 +180,7 @@ const S2: PhaseSet = PhaseSet {
 };
 
 /// The texts of sets, the phases of each, and whether PhaseCode and SinglePhaseKind name it.
-const PHASE_TEXTS: [(&str, &[PhaseSet], bool, bool); 24] = [
+const PHASE_TEXTS: &[(&str, &[PhaseSet], bool, bool)] = &[
     ("ABCN", &[A, B, C, N], true, false),
     ("ABC", &[A, B, C], true, false),
     ("ABN", &[A, B, N], true, false),
@@ -204,7 +208,7 @@ const PHASE_TEXTS: [(&str, &[PhaseSet], bool, bool); 24] = [
 ];
 
 /// Texts of no set.
-const NO_PHASES: [&str; 13] = [
+const NO_PHASES: &[&str] = &[
     "", "none", "X", "BA", "CBA", "AA", "s21", "NA", "a", "A-", "--", "s", "ABC ",
 ];
 
@@ -223,35 +227,38 @@ fn is_written(alloc: Global, set: PhaseSet, text: &str) -> Result<bool, NoMemory
     Ok(written.strip_prefix(b"at ") == Some(text.as_bytes()))
 }
 
+/// Whether a text is that of a set, and names it as a code and as a kind.
+fn names(text: &str, set: PhaseSet, is_code: bool, is_kind: bool) -> bool {
+    PhaseSet::read_text(text).ok() == Some(set)
+        && PhaseSet::read_code(text).ok() == is_code.then_some(set)
+        && PhaseSet::read_kind(text).ok() == is_kind.then_some(set)
+}
+
 #[test]
 fn phase_texts(rt: HostRuntime) -> Result<(), NoMemory> {
     for (text, parts, is_code, is_kind) in PHASE_TEXTS {
         let set = union(parts);
-        assert!(rt; PhaseSet::read_text(text).ok() == Some(set), "at {text}");
-        assert!(rt;
-            PhaseSet::read_code(text).ok() == is_code.then_some(set),
-            "at {text}"
-        );
-        assert!(rt;
-            PhaseSet::read_kind(text).ok() == is_kind.then_some(set),
-            "at {text}"
-        );
+        assert!(rt; names(text, set, *is_code, *is_kind), "at {text}");
         assert!(rt; is_written(rt.alloc(), set, text)?, "at {text}");
     }
     Ok(())
 }
 
+fn names_nothing(text: &str) -> bool {
+    PhaseSet::read_text(text).is_err()
+        && PhaseSet::read_code(text).is_err()
+        && PhaseSet::read_kind(text).is_err()
+}
+
 #[test]
 fn no_phases(rt: HostRuntime) {
     for text in NO_PHASES {
-        assert!(rt; PhaseSet::read_text(text).is_err(), "at {text}");
-        assert!(rt; PhaseSet::read_code(text).is_err(), "at {text}");
-        assert!(rt; PhaseSet::read_kind(text).is_err(), "at {text}");
+        assert!(rt; names_nothing(text), "at {text}");
     }
 }
 
 /// IRIs, and whether each names phase A as a code and as a kind.
-const PHASE_IRIS: [(&str, bool, bool); 6] = [
+const PHASE_IRIS: &[(&str, bool, bool)] = &[
     ("http://iec.ch/TC57/CIM100#PhaseCode.A", true, false),
     ("http://iec.ch/TC57/CIM100#SinglePhaseKind.A", false, true),
     ("http://iec.ch/TC57/CIM100#PhaseCode.", false, false),
@@ -260,17 +267,16 @@ const PHASE_IRIS: [(&str, bool, bool); 6] = [
     ("A", false, false),
 ];
 
+/// Whether an IRI names phase A as a code and as a kind.
+fn names_a(iri: &str, is_code: bool, is_kind: bool) -> bool {
+    PhaseSet::of_code_iri(iri).ok() == is_code.then_some(A)
+        && PhaseSet::of_kind_iri(iri).ok() == is_kind.then_some(A)
+}
+
 #[test]
 fn phase_iris(rt: HostRuntime) {
     for (iri, is_code, is_kind) in PHASE_IRIS {
-        assert!(rt;
-            PhaseSet::of_code_iri(iri).ok() == is_code.then_some(A),
-            "at {iri}"
-        );
-        assert!(rt;
-            PhaseSet::of_kind_iri(iri).ok() == is_kind.then_some(A),
-            "at {iri}"
-        );
+        assert!(rt; names_a(iri, *is_code, *is_kind), "at {iri}");
     }
 }
 
@@ -288,7 +294,7 @@ enum Given {
 }
 
 /// Statements from the least to the greatest: the number of the subject, the property and the object.
-const ASCENDING: [(u128, &str, Given); 7] = [
+const ASCENDING: &[(u128, &str, Given)] = &[
     (1, TYPE, Given::Iri("http://b")),
     (1, NODE, Given::Iri(ONE)),
     (1, NODE, Given::Iri("http://a")),
@@ -307,7 +313,7 @@ fn object(alloc: Global, given: Given) -> Result<Object, NoMemory>
     }
 }
 
-fn statement(alloc: Global, row: (u128, &str, Given)) -> Result<Statement, NoMemory> {
+fn statement(alloc: Global, row: &(u128, &str, Given)) -> Result<Statement, NoMemory> {
     Ok(Statement {
         subject: Id::of(row.0),
         prop: Prop::of_iri(alloc, row.1)?,
@@ -315,13 +321,21 @@ fn statement(alloc: Global, row: (u128, &str, Given)) -> Result<Statement, NoMem
     })
 }
 
+/// Whether a statement is less than another, and a copy of it is equal to it.
+fn ascend(
+    alloc: Global,
+    lesser: &(u128, &str, Given),
+    greater: &(u128, &str, Given),
+) -> Result<bool, NoMemory> {
+    let lesser = statement(alloc, lesser)?;
+    let greater = statement(alloc, greater)?;
+    Ok(lesser < greater && lesser.copy(alloc)? == lesser)
+}
+
 #[test]
 fn statements(rt: HostRuntime) -> Result<(), NoMemory> {
-    let alloc = rt.alloc();
-    for (lesser, greater) in ASCENDING.iter().zip(ASCENDING.iter().skip(1)) {
-        let lesser = statement(alloc, *lesser)?;
-        let greater = statement(alloc, *greater)?;
-        assert!(rt; lesser < greater && lesser.copy(alloc)? == lesser);
+    for (lesser, greater) in ASCENDING.iter().zip(&ASCENDING[1..]) {
+        assert!(rt; ascend(rt.alloc(), lesser, greater)?);
     }
     Ok(())
 }

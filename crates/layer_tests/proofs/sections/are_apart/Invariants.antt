@@ -1,6 +1,6 @@
 use Rattle.std.proofs.Common.{◌≡◌, ℕ, ◌<◌, length, get_or, false}
 use Rattle.segment_cuts.specs.declared.mark.Mark.{Mark}
-use Rattle.word_tests.proofs.sections.are_apart.Given as goal
+use Rattle.layer_tests.proofs.sections.are_apart.Given as goal
 
 abbrev pub invariant-loop-index : goal.invariant-loop-index
 invariant-loop-index l =

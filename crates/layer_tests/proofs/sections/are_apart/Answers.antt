@@ -3,7 +3,7 @@ use Rattle.std.specs.List.{All}
 use Rattle.std.proofs.lemmas.Bool.{cases_lt}
 use Rattle.std.proofs.lemmas.List.{take_rest, get_or-drop, get_or_default, length-drop}
 use Rattle.segment_cuts.specs.declared.mark.Mark.{Mark}
-use Rattle.word_tests.proofs.sections.are_apart.Goals as goal
+use Rattle.layer_tests.proofs.sections.are_apart.Goals as goal
 
 -- pairs whose first item is before an index, and one more
 more_pairs : (R : Mark → Mark → Type 0) (xs : List Mark) (n : ℕ) (e : Mark) → n < length xs → ((i j : ℕ) (d : Mark) → i < n → i < j → j < length xs → R (get_or xs i d) (get_or xs j d))

@@ -14,34 +14,74 @@ use std::test::Fail;
 
 const FARTHEST: u64 = 1_000_000_000_000;
 
-fn cut(number: u8, mm: u64) -> Mark {
+/// A mark: the number of its identifier, its length, and whether it is a cut.
+type Row = (u8, u64, bool);
+
+const ID_1: Id = Id { number: 1 };
+
+const ID_2: Id = Id { number: 2 };
+
+const ID_3: Id = Id { number: 3 };
+
+const ID_4: Id = Id { number: 4 };
+
+const ID_9: Id = Id { number: 9 };
+
+/// The marks of segments, and the spots of their sections, each behind the number of its section.
+const SEGMENTS: &[(&[Row], &[(usize, Spot)])] = &[
+    (&[], &[(0, Spot::EndOne), (0, Spot::EndTwo)]),
+    (
+        &[(1, 0, false), (2, 500, true)],
+        &[
+            (0, Spot::EndOne),
+            (0, Spot::Clamp(ID_1)),
+            (0, Spot::CutOne(ID_2)),
+            (1, Spot::CutTwo(ID_2)),
+            (1, Spot::EndTwo),
+        ],
+    ),
+    (
+        &[(2, FARTHEST, true), (1, 0, true)],
+        &[
+            (0, Spot::EndOne),
+            (0, Spot::CutOne(ID_1)),
+            (1, Spot::CutTwo(ID_1)),
+            (1, Spot::CutOne(ID_2)),
+            (2, Spot::CutTwo(ID_2)),
+            (2, Spot::EndTwo),
+        ],
+    ),
+    (
+        &[(3, 7, false), (9, 6, false), (1, 7, false), (4, 8, true)],
+        &[
+            (0, Spot::EndOne),
+            (0, Spot::Clamp(ID_9)),
+            (0, Spot::Clamp(ID_1)),
+            (0, Spot::Clamp(ID_3)),
+            (0, Spot::CutOne(ID_4)),
+            (1, Spot::CutTwo(ID_4)),
+            (1, Spot::EndTwo),
+        ],
+    ),
+];
+
+fn mark((number, mm, divides): Row) -> Mark {
     Mark {
         id: Id::of(number as u128),
         length: Length { mm },
-        divides: true,
+        divides,
     }
 }
 
-fn clamp(number: u8, mm: u64) -> Mark {
-    Mark {
-        divides: false,
-        ..cut(number, mm)
+fn marks_of(alloc: Global, rows: &[Row]) -> Result<Vec<Mark>, NoMemory> {
+    let mut marks = Vec::new(alloc);
+    for row in rows {
+        marks.push(mark(*row))?;
     }
+    Ok(marks)
 }
 
-fn at(number: u8) -> Spot {
-    Spot::Clamp(Id::of(number as u128))
-}
-
-fn one(number: u8) -> Spot {
-    Spot::CutOne(Id::of(number as u128))
-}
-
-fn two(number: u8) -> Spot {
-    Spot::CutTwo(Id::of(number as u128))
-}
-
-// Whether these are marks of a segment.
+/// Whether these are marks of a segment.
 fn are_marks(marks: &[Mark]) -> bool
     ensures { OnTrue result (AreMarks marks.now) }
 {
@@ -78,7 +118,7 @@ fn goes_with_all(mark: &Mark, others: &[Mark]) -> bool
     true
 }
 
-// Whether a spot is on the segment of these marks.
+/// Whether a spot is on the segment of these marks.
 fn is_on(marks: &[Mark], spot: Spot) -> bool
     ensures { OnTrue result (IsOn marks.now spot) }
 {
@@ -100,7 +140,7 @@ fn has_mark(marks: &[Mark], id: Id, divides: bool) -> bool
     false
 }
 
-// The spots of all sections, each beside the index of its section.
+/// The spots of all sections, each behind the number of its section.
 fn indexed(alloc: Global, sections: &[Section]) -> Result<Vec<(usize, Spot)>, NoMemory> {
     let mut spots = Vec::new(alloc);
     for (index, section) in sections.iter().enumerate() {
@@ -111,76 +151,50 @@ fn indexed(alloc: Global, sections: &[Section]) -> Result<Vec<(usize, Spot)>, No
     Ok(spots)
 }
 
-// A cut at every second millimetre, and clamps between.
-fn many_marks(alloc: Global) -> Result<Vec<Mark>, NoMemory> {
-    let mut marks = Vec::new(alloc);
-    for number in 0..=u8::MAX {
-        let mm = number as u64;
-        marks.push(if number % 2 == 0 {
-            cut(number, mm)
-        } else {
-            clamp(number, mm)
-        })?;
+/// Whether each spot is in its section.
+fn are_found(marks: &[Mark], spots: &[(usize, Spot)]) -> bool
+    requires { AreMarks marks.now }
+{
+    for (index, spot) in spots {
+        if !is_on(marks, *spot) || section_of(marks, *spot) != *index {
+            return false;
+        }
     }
-    Ok(marks)
+    true
+}
+
+/// Whether a segment with these marks has these sections.
+fn is_cut(alloc: Global, rows: &[Row], spots: &[(usize, Spot)]) -> Result<bool, NoMemory> {
+    let marks = marks_of(alloc, rows)?;
+    if !are_marks(&marks) {
+        return Ok(false);
+    }
+    let made = sections(alloc, &marks)?;
+    Ok(indexed(alloc, &made)?.as_slice() == spots && are_found(&marks, spots))
 }
 
 #[test]
 fn cuts_segments(rt: HostRuntime) -> Result<(), Fail> {
-    let alloc = rt.alloc();
-    let table: [(&[Mark], &[(usize, Spot)]); 4] = [
-        (&[], &[(0, Spot::EndOne), (0, Spot::EndTwo)]),
-        (
-            &[clamp(1, 0), cut(2, 500)],
-            &[
-                (0, Spot::EndOne),
-                (0, at(1)),
-                (0, one(2)),
-                (1, two(2)),
-                (1, Spot::EndTwo),
-            ],
-        ),
-        (
-            &[cut(2, FARTHEST), cut(1, 0)],
-            &[
-                (0, Spot::EndOne),
-                (0, one(1)),
-                (1, two(1)),
-                (1, one(2)),
-                (2, two(2)),
-                (2, Spot::EndTwo),
-            ],
-        ),
-        (
-            &[clamp(3, 7), clamp(9, 6), clamp(1, 7), cut(4, 8)],
-            &[
-                (0, Spot::EndOne),
-                (0, at(9)),
-                (0, at(1)),
-                (0, at(3)),
-                (0, one(4)),
-                (1, two(4)),
-                (1, Spot::EndTwo),
-            ],
-        ),
-    ];
-    for (marks, want) in table {
-        assert!(rt; are_marks(marks));
-        let made = sections(alloc, marks)?;
-        assert!(rt; indexed(alloc, &made)?.as_slice() == want);
-        for (index, spot) in want {
-            assert!(rt; is_on(marks, *spot));
-            assert_eq!(rt; section_of(marks, *spot), *index);
-        }
+    for (rows, spots) in SEGMENTS {
+        assert!(rt; is_cut(rt.alloc(), rows, spots)?);
     }
     Ok(())
+}
+
+/// A cut at every second millimetre, and clamps between.
+fn many_marks(alloc: Global) -> Result<Vec<Mark>, NoMemory> {
+    let mut marks = Vec::new(alloc);
+    for number in 0..=u8::MAX {
+        marks.push(mark((number, number as u64, number % 2 == 0)))?;
+    }
+    Ok(marks)
 }
 
 #[test]
 fn cuts_at_most_marks(rt: HostRuntime) -> Result<(), Fail> {
     let marks = many_marks(rt.alloc())?;
     assert!(rt; are_marks(&marks));
-    assert_eq!(rt; sections(rt.alloc(), &marks)?.len(), 129);
-    assert_eq!(rt; section_of(&marks, Spot::EndTwo), 128);
+    assert!(rt; sections(rt.alloc(), &marks)?.len() == 129);
+    assert!(rt; section_of(&marks, Spot::EndTwo) == 128);
     Ok(())
 }

@@ -1,6 +1,6 @@
 use Rattle.std.proofs.Common.{◌≡◌, ℕ, ◌<◌, get_or, false}
 use Rattle.segment_cuts.specs.declared.mark.Mark.{Mark}
-use Rattle.word_tests.proofs.sections.goes_with_all.Given as goal
+use Rattle.layer_tests.proofs.sections.goes_with_all.Given as goal
 
 abbrev pub invariant-loop-other : goal.invariant-loop-other
 invariant-loop-other l =
