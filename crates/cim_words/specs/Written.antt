@@ -63,3 +63,7 @@ written_line s = written_id s.subject.number ++ codes " " ++ written_iri (prop_i
 -- the written form of a statement
 abbrev pub written : Statement → List ℕ
 written s = written_line s ++ line_feed ∷ []
+
+-- the most bytes that a line may have without its end, and so may the written line of a statement
+abbrev pub line_limit : ℕ
+line_limit = 8192

@@ -1,13 +1,13 @@
 -- What a reader's faults say of the document, and what the end of a document says.
 use Rattle.std.proofs.Common.{◌≡◌, ℕ, ◌+◌, ◌<◌, ◌==◌, List, [], ◌∷◌, ◌++◌, false, length, refl, sym, ap, ◌∙◌, subst, append_assoc, append-nil, length-append, arith}
 use Rattle.std.specs.List.{flat_map}
-use Rattle.cim_words.specs.Written.{line_feed, carriage_return}
+use Rattle.cim_words.specs.Written.{carriage_return, line_feed, line_limit}
 use Rattle.cim_words.specs.declared.statement.Statement.{Statement}
 use Rattle.nt_text.specs.Cut.{IsFreeOf}
 use Rattle.nt_text.specs.Document.{feeds_after, cut_at_feeds, lines_of, AreRead, IsDocument}
 use Rattle.nt_text.specs.Reader.{ReaderState, HasRead, HasFailed, IsFaultOf, ends_in_return}
 use Rattle.nt_text.specs.ReaderSteps.{IsPlain, IsEnd, is_half, last_line, IsLineFault}
-use Rattle.nt_text.specs.Reading.{line_limit}
+
 use Rattle.nt_text.specs.declared.refusal.LineRefusal.TheVariants as why
 use Rattle.nt_text.specs.declared.refusal.NtFault.{NtFault}
 use Rattle.nt_text.specs.declared.refusal.NtFault.TheVariants as fault

@@ -3,11 +3,11 @@ use Rattle.std.proofs.Common.{◌≡◌, ℕ, ◌<◌, List, Bool, true, false, 
 use Rattle.std.specs.Result.{is_err}
 use Rattle.std.specs.Str.{IsUtf8}
 use Rattle.cim_words.specs.declared.object.Object.{Object}
-use Rattle.cim_words.specs.Written.{written_line}
+use Rattle.cim_words.specs.Written.{line_limit, written_line}
 use Rattle.cim_words.specs.declared.statement.Statement.{Statement}
 use Rattle.nt_text.specs.Ends.{HasObjectToEnd, IsStatementFault}
 use Rattle.nt_text.specs.Grammar.{BeginsBlankNode, HasBlankNode, HasIri, IsEmptyLine, IsTriple}
-use Rattle.nt_text.specs.Reading.{IsReading, IsText, Says, line_limit, told}
+use Rattle.nt_text.specs.Reading.{IsReading, IsText, Says, told}
 use Rattle.nt_text.specs.declared.refusal.LineFault.{LineFault}
 use Rattle.nt_text.specs.declared.refusal.LineFault.TheVariants as fault
 use Rattle.nt_text.specs.declared.refusal.LineRefusal.TheVariants as why

@@ -8,7 +8,7 @@ use Rattle.cim_words.specs.Held.{IsHeld, IsStatement}
 use Rattle.cim_words.specs.IdText.{id_iri}
 use Rattle.cim_words.specs.Object.{is_proper_object}
 use Rattle.cim_words.specs.Prop.{prop_iri}
-use Rattle.cim_words.specs.Written.{iri_spelling, literal_spelling, written_line, written_object, quote}
+use Rattle.cim_words.specs.Written.{iri_spelling, line_limit, literal_spelling, quote, written_line, written_object}
 use Rattle.cim_words.specs.declared.object.Object.{Object}
 use Rattle.cim_words.specs.declared.object.Object.TheVariants as object
 use Rattle.cim_words.specs.declared.statement.Statement.{Statement}
@@ -18,7 +18,7 @@ use Rattle.cim_words.proofs.Statements.{prop_of-prop_iri, object_of-id_iri, obje
 use Rattle.nt_text.specs.Ends.{IsSayingFault}
 use Rattle.nt_text.specs.Grammar.{is_blank, IsGap, HasIri, HasObject, IsEnd, IsTriple}
 use Rattle.nt_text.specs.Parts.{Spells}
-use Rattle.nt_text.specs.Reading.{holds, IsReading, Says, line_limit}
+use Rattle.nt_text.specs.Reading.{holds, IsReading, Says}
 use Rattle.nt_text.specs.Spelling.{behind_iri, triple}
 use Rattle.nt_text.specs.declared.refusal.LineFault.TheVariants as fault
 use Rattle.nt_text.specs.declared.refusal.LineRefusal.{LineRefusal}

@@ -1,12 +1,12 @@
 -- What may stand after a literal's characters, up to the end of the triple.
 use Rattle.std.specs.Prelude.{ℕ, ◌≡◌, ◌<◌, length, List, [], ◌∷◌, ◌++◌, Bool, true, not, ◌||◌, ◌==◌, codes}
 use Rattle.std.specs.List.{flat_map, AllByRecursion}
-use Rattle.cim_words.specs.Written.{written_line}
+use Rattle.cim_words.specs.Written.{line_limit, written_line}
 use Rattle.cim_words.specs.declared.object.Object.{Object}
 use Rattle.cim_words.specs.declared.object.Object.TheVariants as object
 use Rattle.cim_words.specs.declared.statement.Statement.{Statement}
 use Rattle.nt_text.specs.Grammar.{is_letter_or_digit, IsSubtag, IsLanguage, HasIri, HasCharacters, HasKind, HasObject, IsEnd, IsTriple, HasBlankNode}
-use Rattle.nt_text.specs.Reading.{Says, SaysOfNone, line_limit}
+use Rattle.nt_text.specs.Reading.{Says, SaysOfNone}
 use Rattle.nt_text.specs.declared.refusal.LineFault.{LineFault}
 use Rattle.nt_text.specs.declared.refusal.LineFault.TheVariants as fault
 use Rattle.nt_text.specs.declared.refusal.LineRefusal.TheVariants as why

@@ -1,10 +1,10 @@
 -- The steps by which a reader takes a piece.
 use Rattle.std.specs.Prelude.{ℕ, ◌<◌, ◌≡◌, ◌⊎◌, List, [], ◌∷◌, ◌++◌, length, Bool, ◌&&◌, ◌==◌}
-use Rattle.cim_words.specs.Written.{line_feed, carriage_return}
+use Rattle.cim_words.specs.Written.{carriage_return, line_feed, line_limit}
 use Rattle.cim_words.specs.declared.statement.Statement.{Statement}
 use Rattle.nt_text.specs.Cut.{IsFreeOf}
 use Rattle.nt_text.specs.Reader.{ReaderState, HasRead, HasFailed}
-use Rattle.nt_text.specs.Reading.{IsReading, line_limit, refused}
+use Rattle.nt_text.specs.Reading.{IsReading, refused}
 use Rattle.nt_text.specs.declared.refusal.LineRefusal.TheVariants as why
 use Rattle.nt_text.specs.declared.refusal.NtFault.{NtFault}
 use Rattle.nt_text.specs.declared.refusal.NtFault.TheVariants as fault

@@ -3,7 +3,7 @@ use Rattle.std.specs.Prelude.{ℕ, ◌≡◌, ◌<◌, ◌≤◌, List, length, 
 use Rattle.std.specs.Str.{IsUtf8}
 use Rattle.cim_words.specs.IdText.{iri_number}
 use Rattle.cim_words.specs.Prop.{prop_of}
-use Rattle.cim_words.specs.Written.{written_line}
+use Rattle.cim_words.specs.Written.{line_limit, written_line}
 use Rattle.cim_words.specs.declared.object.Object.{Object}
 use Rattle.cim_words.specs.declared.statement.Statement.{Statement}
 use Rattle.nt_text.specs.Grammar.{IsTriple, IsEmptyLine, HasBlankNode}
@@ -11,10 +11,6 @@ use Rattle.nt_text.specs.declared.refusal.LineFault.{LineFault}
 use Rattle.nt_text.specs.declared.refusal.LineFault.TheVariants as fault
 use Rattle.nt_text.specs.declared.refusal.LineRefusal.{LineRefusal}
 use Rattle.nt_text.specs.declared.refusal.LineRefusal.TheVariants as why
-
--- the most bytes that a line may have without its end, and that the written line of a statement may have
-abbrev pub line_limit : ℕ
-line_limit = 8192
 
 -- a line says nothing, or holds a statement, or is refused
 pub data Reading : Type 0 where

@@ -73,7 +73,7 @@ pub struct LineReader {
 impl Model for LineReader {
     ghost use Rattle.std.specs.Prelude.{◌+◌, ◌≤◌, length};
     ghost use Rattle.nt_text.specs.Reader.{ReaderState};
-    ghost use Rattle.nt_text.specs.Reading.{line_limit};
+    ghost use Rattle.cim_words.specs.Written.{line_limit};
 
     ghost Value = { ReaderState };
 

@@ -2,10 +2,10 @@
 
 ghost use Rattle.std.specs.Prelude.{ℕ, List, ◌≡◌, ◌≢◌, ◌↔◌, ◌≤◌, ◌<◌, ◌^◌, length, IfOk, IfErr, IfSome, IfNone, IsTrue};
 ghost use Rattle.cim_words.specs.Held.{IsStatement};
-ghost use Rattle.cim_words.specs.Written.{written_line};
+ghost use Rattle.cim_words.specs.Written.{line_limit, written_line};
 ghost use Rattle.cim_words.specs.declared.statement.Statement.{Statement};
 ghost use Rattle.nt_text.specs.Ends.{IsSayingFault, IsStatementFault, text_length};
-ghost use Rattle.nt_text.specs.Reading.{Reading, holds, IsReading, Says, told, line_limit};
+ghost use Rattle.nt_text.specs.Reading.{Reading, holds, IsReading, Says, told};
 
 use crate::refusal::{LineFault, LineRefusal};
 use crate::run::is_empty_line;

@@ -11,7 +11,7 @@ use Rattle.room.specs.Base.{IsBase, RefusesBase}
 use Rattle.room.specs.Command.{IsCommand, IsCheckCommand, IsTraceCommand}
 use Rattle.room.specs.Run.{Answers, Asks, Explains, HasAnswer, IsNoCommand, IsRefused, RefusesTask, Tells, TellsBase, is_answer}
 use Rattle.room.specs.Status.{line_of, status_of}
-use Rattle.room.specs.TraceText.{trace_text}
+use Rattle.room_words.specs.TraceText.{trace_text}
 use Rattle.room.specs.declared.refusal.BaseRefusal.{BaseRefusal}
 use Rattle.room.specs.declared.refusal.Refusal.{Refusal}
 use Rattle.room.specs.declared.refusal.Refusal.TheVariants as refusal
@@ -55,7 +55,7 @@ one_command words name name' (task.Trace source phases) (task.Trace source' phas
 -- a task tells one text of a set, or nothing for one reason
 one_text : KeepLaws → (asked : Task) (set : List Statement) (x y : List ℕ) → Tells asked set x → Tells asked set y → x ≡ y
 one_text laws task.Check set x y a b = a ∙ sym b
-one_text laws (task.Trace source phases) set x y a b = a.is_text ∙ ap trace_text (laws.trace set source.number phases a.rows b.rows a.trace b.trace) ∙ sym b.is_text
+one_text laws (task.Trace source phases) set x y a b = a.is_text ∙ ap (trace_text 0) (laws.trace set source.number phases a.rows b.rows a.trace b.trace) ∙ sym b.is_text
 
 told_or_not : (asked : Task) (set : List Statement) (x : List ℕ) (why : TaskRefusal) → Tells asked set x → RefusesTask asked set why → ⊥
 told_or_not task.Check set x why tells none = none

@@ -5,4 +5,3 @@ pub mod Refusal
 pub mod RefusalLine
 pub mod Run
 pub mod Status
-pub mod TraceText

@@ -9,6 +9,7 @@ use Rattle.cim_words.specs.declared.statement.Statement.{Statement}
 use Rattle.grid_out.specs.Faults.{Rose}
 use Rattle.grid_out.specs.Sink.{Gains, GainsPrefix}
 use Rattle.room_words.specs.Overlay.{no_overlay}
+use Rattle.room_words.specs.TraceText.{trace_text}
 use Rattle.room.specs.declared.refusal.BaseRefusal.{BaseRefusal}
 use Rattle.room.specs.declared.refusal.Failure.{Failure}
 use Rattle.room.specs.declared.refusal.Failure.TheVariants as failure
@@ -24,7 +25,6 @@ use Rattle.room.specs.Base.{IsBase, RefusesBase}
 use Rattle.room.specs.CheckText.{check_text}
 use Rattle.room.specs.Command.{IsCommand}
 use Rattle.room.specs.Status.{line_of, status_of}
-use Rattle.room.specs.TraceText.{trace_text}
 
 -- the words are no command of this program
 abbrev pub IsNoCommand : List (List ℕ) → Type 0
@@ -55,7 +55,7 @@ pub record IsTraced (set : List Statement) (source : ℕ) (phases : PhaseSet) (t
   pub equipment : IsTrue (is_equipment set source)
   pub rows : List Row
   pub trace : IsTrace (IsReached (network set no_overlay) source phases) rows
-  pub is_text : text ≡ trace_text rows
+  pub is_text : text ≡ trace_text 0 rows
 
 -- what a task tells of a set of statements: a check tells how many they are
 abbrev pub Tells : Task → List Statement → List ℕ → Type 0

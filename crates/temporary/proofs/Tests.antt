@@ -1,7 +1,7 @@
 -- What tests say of what there may be, and of the first of a list that fails them.
 use Rattle.std.proofs.Common.{◌≡◌, inl, inr, List, [], ◌∷◌, Bool, true, false, Option, Some, None, IfSome, refl, subst, not, cond, find, ap, sym, ◌∙◌}
 use Rattle.std.proofs.lemmas.Option.{same_Some}
-use Rattle.temporary.specs.Lost.{AllHave, IsFirstWithout}
+use Rattle.room_words.specs.Firsts.{AllHave, IsFirstWithout}
 use Rattle.plain_laws.proofs.Members.{Among, among_contained, contains_among}
 use Rattle.temporary.specs.Parts.{if_there}
 

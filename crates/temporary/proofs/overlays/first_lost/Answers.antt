@@ -8,7 +8,8 @@ use Rattle.room_words.specs.Items.{item_number}
 use Rattle.room_words.specs.declared.items.TempItem.{TempItem}
 use Rattle.room_words.specs.declared.overlay.Overlay.{Overlay}
 use Rattle.room_words.specs.declared.overlay.Position.{Position}
-use Rattle.temporary.specs.Lost.{AllHave, IsFirstLost}
+use Rattle.room_words.specs.Firsts.{AllHave}
+use Rattle.temporary.specs.Lost.{IsFirstLost}
 use Rattle.temporary.specs.Parts.{does_stand, is_of_switch}
 use Rattle.room_words.specs.declared.lost.Lost.{Lost}
 use Rattle.temporary.proofs.Tests.{all_have, first_without}
