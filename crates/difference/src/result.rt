@@ -29,5 +29,5 @@ pub fn apply(
 ) -> Result<StatementSet, SetRefusal>
     ensures { Gives (IsInResult set.now difference.now) result }
 {
-    set.changed(alloc, difference.rev(), difference.fwd())
+    set.without(alloc, difference.rev())?.with(alloc, difference.fwd())
 }

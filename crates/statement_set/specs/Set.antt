@@ -21,10 +21,6 @@ IsInEither these those s = Contains these s ⊎ Contains those s
 abbrev pub IsInFirstAlone : List Statement → List Statement → Statement → Type 0
 IsInFirstAlone these those s = Contains these s × ¬ (Contains those s)
 
--- a change wants what is in the first list and not in the second, and all of the third
-abbrev pub IsChanged : List Statement → List Statement → List Statement → Statement → Type 0
-IsChanged these less more s = IsInFirstAlone these less s ⊎ Contains more s
-
 -- the statements that a set may have at most
 abbrev pub most_statements : ℕ
 most_statements = 1000000

@@ -2,7 +2,7 @@
 
 ghost use Rattle.std.specs.Prelude.{◌≡◌};
 ghost use Rattle.statement_set.specs.Gives.{Gives};
-ghost use Rattle.statement_set.specs.Set.{IsChanged, IsInEither, IsInFirstAlone};
+ghost use Rattle.statement_set.specs.Set.{IsInEither, IsInFirstAlone};
 
 use crate::copies::{append_copies, copies_apart};
 use crate::once::order_once;
@@ -20,19 +20,6 @@ impl StatementSet {
         append_copies(self.statements(), &mut all)?;
         append_copies(more.as_slice(), &mut all)?;
         StatementSet::from_list(alloc, Statements::of(all))
-    }
-
-    /// The set of those of these statements that are not among some, and of more.
-    pub fn changed(
-        &self,
-        alloc: Global,
-        less: &Statements,
-        more: &Statements,
-    ) -> Result<StatementSet, SetRefusal>
-        ensures { Gives (IsChanged self.now less.now more.now) result }
-    {
-        let _stub = (alloc, less.len(), more.len());
-        Err(SetRefusal::NoMemory)
     }
 
     /// The set of those of these statements that are not among others.
