@@ -1,0 +1,15 @@
+//! Versions of a room: a base and a history, with the network that they make.
+#![tactic(auto)]
+
+mod advances;
+mod held;
+mod laws;
+mod log_room;
+mod traces;
+mod version;
+
+pub use cim_words::NoMemory;
+pub use laws::{histories_keep_networks_sound, histories_leave_one_network};
+pub use log_room::log_room;
+pub use traces::TraceNo;
+pub use version::Version;

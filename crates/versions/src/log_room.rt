@@ -1,0 +1,23 @@
+//! The limits of a history.
+
+ghost use Rattle.std.specs.Prelude.{◌≡◌, ◌^◌, ◌<◌, IfErr, OnOk};
+ghost use Rattle.versions.specs.History.{HasNoRoom};
+
+use room_words::{Event, LogFull};
+
+/// How many entries a history has at most.
+const MOST_ENTRIES: u32 = 1_048_576;
+
+/// How many bytes the written forms of its differences have together at most.
+const MOST_LOG_BYTES: u64 = 536_870_912;
+
+/// Whether a history with so many entries, whose differences have so many bytes, has room for an event.
+pub fn log_room(entries: u32, bytes: u64, event: &Event) -> Result<(), LogFull>
+    ensures room { OnOk result (HasNoRoom entries bytes event.now → ⊥) }
+    ensures full { IfErr result (λ full. HasNoRoom entries bytes event.now × (full ≡ record { entries = entries; bytes = bytes })) }
+{
+    if entries >= MOST_ENTRIES || MOST_LOG_BYTES.saturating_sub(bytes) < bytes_of(event) || bytes > MOST_LOG_BYTES {
+        return Err(LogFull { entries, bytes });
+    }
+    Ok(())
+}
