@@ -1,6 +1,9 @@
 //! Values that many holders have at once, and lists whose shares keep what they hold.
 #![tactic(auto)]
 
+mod node;
 mod share;
+mod shared_list;
 
 pub use share::{NoMemory, Share};
+pub use shared_list::SharedList;
