@@ -1,5 +1,5 @@
 -- Where the items of a shared list stand: each item has a node, the nodes form complete trees, and the trees follow each other.
-use Rattle.std.specs.Prelude.{◌≡◌, ℕ, List, [], ◌∷◌, ◌++◌, length, Option, None, Some}
+use Rattle.std.specs.Prelude.{◌≡◌, List, [], ◌++◌, length, Option, None, Some}
 use Rattle.std.specs.Arc.{arc_value}
 use Rattle.std.specs.declared.sync.Arc.{Arc}
 use Rattle.std.specs.declared.alloc.Global.{Global}

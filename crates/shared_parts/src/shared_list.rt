@@ -24,7 +24,7 @@ impl<T> Model for SharedList<T> {
     ghost view = { λ list. items_up_to list.last };
 }
 
-impl<T: Share + Drop> SharedList<T> {
+impl<T> SharedList<T> {
     /// A list of no items.
     pub fn new(alloc: Global) -> Self
         ensures { result ≡ [] }
@@ -49,7 +49,9 @@ impl<T: Share + Drop> SharedList<T> {
             None => unreachable!(),
         }
     }
+}
 
+impl<T: Drop> SharedList<T> {
     /// Puts an item at the end. If there is no memory for it, the list is as before and the item is handed back.
     pub fn push(&mut self, item: T) -> Result<(), (NoMemory, T)>
         ensures ok { OnOk result (self.new ≡ self.old ++ item ∷ []) }
@@ -61,7 +63,7 @@ impl<T: Share + Drop> SharedList<T> {
     }
 }
 
-impl<T: Share + Drop> Share for SharedList<T> {
+impl<T> Share for SharedList<T> {
     fn share(&self) -> Result<Self, NoMemory> {
         Ok(SharedList {
             alloc: self.alloc,
