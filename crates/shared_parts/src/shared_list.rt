@@ -2,6 +2,7 @@
 
 ghost use Rattle.std.specs.Prelude.{◌≡◌, ◌<◌, ◌++◌, ◌∷◌, [], length, slice_index_or, OnOk, IfErr};
 
+use crate::items::Items;
 use crate::node::{Link, Node, len_up_to, share_link};
 use crate::share::{NoMemory, Share};
 use std::alloc::Global;
@@ -48,6 +49,13 @@ impl<T> SharedList<T> {
             Some(node) => node.at(index),
             None => unreachable!(),
         }
+    }
+
+    /// Goes over the items, in order.
+    pub fn iter(&self) -> Items<'_, T>
+        ensures { result ≡ self.now }
+    {
+        Items::of(self)
     }
 }
 
