@@ -4,6 +4,8 @@
 #[cfg(test)]
 mod boards;
 #[cfg(test)]
+mod lists;
+#[cfg(test)]
 mod overlays;
 #[cfg(test)]
 mod sections;
