@@ -5,6 +5,7 @@ ghost use Rattle.statement_set.specs.Gives.{Gives};
 ghost use Rattle.statement_set.specs.Set.{IsInEither, IsInFirstAlone};
 
 use crate::copies::{append_copies, copies_apart};
+use crate::merge::merged;
 use crate::once::order_once;
 use crate::refusal::SetRefusal;
 use crate::set::StatementSet;
@@ -16,10 +17,10 @@ impl StatementSet {
     pub fn with(&self, alloc: Global, more: &Statements) -> Result<StatementSet, SetRefusal>
         ensures { Gives (IsInEither self.now more.now) result }
     {
-        let mut all = Vec::new(alloc);
-        append_copies(self.statements(), &mut all)?;
-        append_copies(more.as_slice(), &mut all)?;
-        StatementSet::from_list(alloc, Statements::of(all))
+        let mut new = Vec::new(alloc);
+        append_copies(more.as_slice(), &mut new)?;
+        order_once(&mut new);
+        StatementSet::of_ordered(alloc, merged(alloc, self.statements(), &new)?)
     }
 
     /// The set of those of these statements that are not among others.
