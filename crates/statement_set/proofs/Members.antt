@@ -1,5 +1,5 @@
 -- What ordered lists of statements hold, what a call gives that makes a set, and the statements that are not in another list.
-use Rattle.std.proofs.Common.{◌≡◌, ◌↔◌, List, Contains, Bool, IsTrue, ◌++◌, Result, Ok, Err, ⊎_elim, inl, inr, rules, ℕ, ◌+◌, ◌<◌, [], ◌∷◌, true, false, not, ◌&&◌, length, take, get_or, refl, sym, ap, ◌∙◌}
+use Rattle.std.proofs.Common.{◌≡◌, ◌↔◌, List, Contains, Bool, IsTrue, ◌++◌, Result, Ok, Err, ⊎_elim, inl, inr, IfErr, arith, rules, ℕ, ◌+◌, ◌<◌, ◌≤◌, [], ◌∷◌, true, false, not, ◌&&◌, length, take, get_or, refl, sym, ap, ◌∙◌}
 use Rattle.std.specs.BTreeSet.{BTreeSet, contains}
 use Rattle.std.specs.Cmp.{Equal-is, both_ways}
 use Rattle.std.proofs.lemmas.Map.Lookups.{btree_set_from_contains}
@@ -16,7 +16,7 @@ use Rattle.statement_set.specs.Gives.{Gives}
 use Rattle.cim_words.specs.Order.{statement_order}
 use Rattle.cim_words.specs.declared.statement.Statement.{Statement}
 use Rattle.cim_words.proofs.Orders.{statement_order_total, tied_statements_are_one}
-use Rattle.statement_set.specs.Set.{IsInEither, IsInFirstAlone, IsOrdered, IsSetOf}
+use Rattle.statement_set.specs.Set.{IsInEither, IsInFirstAlone, IsOrdered, IsSetOf, most_statements}
 
 abbrev pub as_keys : List Statement → BTreeSet Statement
 as_keys list = record { keys = list }
@@ -64,6 +64,14 @@ gives_difference these those gone kept others rest = gives_same (Contains kept) 
   (λ h. let k : IsInFirstAlone these gone s = (rest.members s).0 h in (k.0, λ g. k.1 ((others.members s).1 g))),
   (λ (inside, out). (rest.members s).1 (inside, λ g. out ((others.members s).0 g))),
 ))
+
+-- a list that is not too long is refused for want of memory alone
+pub refused_for_memory : (list : List Statement) → IsOrdered list → length list ≤ most_statements → (result : Result (List Statement) SetRefusal) → Gives (Contains list) result → IfErr result (λ refusal. refusal ≡ NoMemory)
+refused_for_memory list ordered small (Ok set) given = tt
+refused_for_memory list ordered small (Err NoMemory) given = refl
+refused_for_memory list ordered small (Err (TooMany count)) (set, is, long, above) =
+    let same : set ≡ list = one_list set list is.ordered ordered is.members in
+    absurd (omega (arith, ap length same))
 
 -- ---- the statements of an ordered list that are not in another
 
