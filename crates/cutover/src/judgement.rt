@@ -75,7 +75,10 @@ fn unfit(
         return Ok(Some(DiffRefusal::Profile(found.rule, found.subject)));
     }
     let index = Index::build(alloc, model)?;
-    Ok(first_lost(&index, overlay).map(|lost| DiffRefusal::Place(lost.id)))
+    match first_lost(&index, overlay) {
+        Some(lost) => Ok(Some(DiffRefusal::Place(lost.id))),
+        None => Ok(None),
+    }
 }
 
 /// An overlay that stands on a model stands on the one that an accepted difference leaves.
