@@ -29,5 +29,6 @@ pub fn apply(
 ) -> Result<StatementSet, SetRefusal>
     ensures { Gives (IsInResult set.now difference.now) result }
 {
-    set.without(alloc, difference.rev())?.with(alloc, difference.fwd())
+    set.without(alloc, difference.rev())?
+        .with(alloc, difference.fwd())
 }

@@ -1,4 +1,5 @@
 pub mod Members
+pub mod Merging
 pub mod Runs
 pub mod Searches
 pub mod Steps

@@ -1,10 +1,10 @@
 -- What ordered lists of statements hold, what a call gives that makes a set, and the statements that are not in another list.
-use Rattle.std.proofs.Common.{◌≡◌, ◌↔◌, List, Contains, Bool, IsTrue, ◌++◌, Result, Ok, Err, ⊎_elim, rules, ℕ, ◌+◌, ◌<◌, [], ◌∷◌, true, false, not, ◌&&◌, length, take, get_or, refl, sym, ap, ◌∙◌}
+use Rattle.std.proofs.Common.{◌≡◌, ◌↔◌, List, Contains, Bool, IsTrue, ◌++◌, Result, Ok, Err, ⊎_elim, inl, inr, IfErr, arith, rules, ℕ, ◌+◌, ◌<◌, ◌≤◌, [], ◌∷◌, true, false, not, ◌&&◌, length, take, get_or, refl, sym, ap, ◌∙◌}
 use Rattle.std.specs.BTreeSet.{BTreeSet, contains}
 use Rattle.std.specs.Cmp.{Equal-is, both_ways}
 use Rattle.std.proofs.lemmas.Map.Lookups.{btree_set_from_contains}
 use Rattle.std.proofs.lemmas.Map.Views.{any-filter_same, btree_set_contains_iff}
-use Rattle.std.proofs.lemmas.List.Elements.{Contains-append_cases, Contains-append_left, Contains-append_right, filter_more}
+use Rattle.std.proofs.lemmas.List.Elements.{filter_more}
 use Rattle.std.specs.List.{filter}
 use Rattle.std.specs.Ordering.{is_eq}
 use Rattle.std.proofs.lemmas.List.Kept.{IsStrictlySortedBy-filter}
@@ -16,7 +16,7 @@ use Rattle.statement_set.specs.Gives.{Gives}
 use Rattle.cim_words.specs.Order.{statement_order}
 use Rattle.cim_words.specs.declared.statement.Statement.{Statement}
 use Rattle.cim_words.proofs.Orders.{statement_order_total, tied_statements_are_one}
-use Rattle.statement_set.specs.Set.{IsInEither, IsInFirstAlone, IsOrdered, IsSetOf}
+use Rattle.statement_set.specs.Set.{IsInEither, IsInFirstAlone, IsOrdered, IsSetOf, most_statements}
 
 abbrev pub as_keys : List Statement → BTreeSet Statement
 as_keys list = record { keys = list }
@@ -39,7 +39,7 @@ one_list these those first second same = btree_set_from_contains statement_order
 
 -- ---- what a call gives that makes a set
 
-same_set : (these those : Statement → Type 0) → ((s : Statement) → these s ↔ those s) → (set : List Statement) → IsSetOf these set → IsSetOf those set
+pub same_set : (these those : Statement → Type 0) → ((s : Statement) → these s ↔ those s) → (set : List Statement) → IsSetOf these set → IsSetOf those set
 same_set these those same set is = record {
   ordered = is.ordered;
   members = λ s. ((λ h. (same s).0 ((is.members s).0 h)), (λ h. (is.members s).1 ((same s).1 h)));
@@ -51,9 +51,12 @@ gives_same these those same (Ok set) (is, small) = (same_set these those same se
 gives_same these those same (Err (TooMany count)) (set, is, long, above) = (set, same_set these those same set is, long, above)
 gives_same these those same (Err NoMemory) free = free
 
--- what is given of two lists, one after the other, is their union
-pub gives_union : (these those : List Statement) (result : Result (List Statement) SetRefusal) → Gives (Contains (these ++ those)) result → Gives (IsInEither these those) result
-gives_union these those = gives_same (Contains (these ++ those)) (IsInEither these those) (λ s. (Contains-append_cases these those s, ⊎_elim (Contains-append_left these those s) (Contains-append_right these those s)))
+-- what is given of a list and of the set of another is the union with that other
+pub gives_union : (these those new all : List Statement) → IsSetOf (Contains those) new → IsSetOf (IsInEither these new) all → (result : Result (List Statement) SetRefusal) → Gives (Contains all) result → Gives (IsInEither these those) result
+gives_union these those new all others both = gives_same (Contains all) (IsInEither these those) (λ s. (
+  (λ h. ⊎_elim (λ here. inl here) (λ there. inr ((others.members s).0 there)) ((both.members s).0 h)),
+  (λ h. (both.members s).1 (⊎_elim (λ here. inl here) (λ there. inr ((others.members s).1 there)) h)),
+))
 
 -- what is given of the statements that are not in a set is the difference to the list of that set
 pub gives_difference : (these those gone kept : List Statement) → IsSetOf (Contains those) gone → IsSetOf (IsInFirstAlone these gone) kept → (result : Result (List Statement) SetRefusal) → Gives (Contains kept) result → Gives (IsInFirstAlone these those) result
@@ -61,6 +64,14 @@ gives_difference these those gone kept others rest = gives_same (Contains kept) 
   (λ h. let k : IsInFirstAlone these gone s = (rest.members s).0 h in (k.0, λ g. k.1 ((others.members s).1 g))),
   (λ (inside, out). (rest.members s).1 (inside, λ g. out ((others.members s).0 g))),
 ))
+
+-- a list that is not too long is refused for want of memory alone
+pub refused_for_memory : (list : List Statement) → IsOrdered list → length list ≤ most_statements → (result : Result (List Statement) SetRefusal) → Gives (Contains list) result → IfErr result (λ refusal. refusal ≡ NoMemory)
+refused_for_memory list ordered small (Ok set) given = tt
+refused_for_memory list ordered small (Err NoMemory) given = refl
+refused_for_memory list ordered small (Err (TooMany count)) (set, is, long, above) =
+    let same : set ≡ list = one_list set list is.ordered ordered is.members in
+    absurd (omega (arith, ap length same))
 
 -- ---- the statements of an ordered list that are not in another
 

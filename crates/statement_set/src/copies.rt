@@ -1,6 +1,6 @@
 //! Copies of statements.
 
-ghost use Rattle.std.specs.Prelude.{◌≡◌, ◌++◌, IfOk, OnOk};
+ghost use Rattle.std.specs.Prelude.{◌≡◌, ◌≤◌, ◌++◌, length, IfOk, OnOk};
 ghost use Rattle.statement_set.specs.Set.{IsOrdered, IsSetOf, IsInFirstAlone};
 
 use crate::lookup::is_among;
@@ -29,7 +29,8 @@ pub(crate) fn copies_apart(
 ) -> Result<Vec<Statement>, NoMemory>
     requires ordered { IsOrdered statements.now }
     requires gone { IsOrdered gone.now }
-    ensures { IfOk result (λ kept. IsSetOf (IsInFirstAlone statements.now gone.now) kept.items) }
+    ensures apart { IfOk result (λ kept. IsSetOf (IsInFirstAlone statements.now gone.now) kept.items) }
+    ensures few { IfOk result (λ kept. length kept.items ≤ length statements.now) }
 {
     let mut kept = Vec::new(alloc);
     for statement in statements {

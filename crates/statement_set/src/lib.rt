@@ -5,6 +5,7 @@ mod about;
 mod change;
 mod copies;
 mod lookup;
+mod merge;
 mod once;
 mod refusal;
 mod set;

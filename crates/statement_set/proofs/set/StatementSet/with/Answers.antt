@@ -1,10 +1,12 @@
-use Rattle.std.proofs.Common.{◌≡◌, ◌++◌, List, Contains, refl, subst}
+use Rattle.std.proofs.Common.{◌≡◌, List, Contains, refl, subst, subst₂}
 use Rattle.cim_words.specs.declared.statement.Statement.{Statement}
-use Rattle.statement_set.specs.Gives.{Gives}
+use Rattle.statement_set.specs.Set.{IsSetOf, IsInEither}
 use Rattle.statement_set.proofs.Members.{gives_union}
 use Rattle.statement_set.proofs.set.StatementSet.with.Goals as goal
 
 pub returns : goal.returns
 returns c =
-    let all : c.of.result ≡ c.args.self.now ++ c.args.more.now = rw (c.of.ensures, c.in_ok-append_copies-2.ensures, c.as_slice.ensures, c.in_ok-append_copies.ensures, c.new-all.ensures.items, c.statements.ensures.list) refl in
-    gives_union c.args.self.now c.args.more.now c.from_list.result (subst (λ (list : List Statement). Gives (Contains list) c.from_list.result) all c.from_list.ensures)
+    let others : c.append_copies.new.into.items ≡ c.args.more.now = rw (c.in_ok-append_copies.ensures, c.new-new.ensures.items, c.as_slice.ensures) refl in
+    let new = subst (λ (list : List Statement). IsSetOf (Contains list) c.order_once.new.statements.items) others c.order_once.ensures in
+    let all = subst₂ (λ (these those : List Statement). IsSetOf (IsInEither these those) c.in_ok-merged.field-0.items) c.statements.ensures.list c.deref.ensures.value c.in_ok-merged.ensures in
+    gives_union c.args.self.now c.args.more.now c.order_once.new.statements.items c.in_ok-merged.field-0.items new all c.of_ordered.result c.of_ordered.ensures
