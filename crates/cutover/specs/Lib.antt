@@ -1,1 +1,2 @@
+pub mod Denied
 pub mod Judgement

@@ -2,6 +2,7 @@
 
 use cim_words::NoMemory;
 use room_words::DiffRefusal;
+use statement_set::SetRefusal;
 use thiserror::Error;
 
 /// Why a difference makes no model.
@@ -23,5 +24,19 @@ impl From<NoMemory> for DiffDenied {
 
     fn from(_error: NoMemory) -> DiffDenied {
         DiffDenied::NoMemory
+    }
+}
+
+impl From<SetRefusal> for DiffDenied {
+    ghost use Rattle.std.specs.Prelude.{◌≡◌};
+    ghost use Rattle.cutover.specs.Denied.{denied_of_set};
+
+    ghost from_gives = { λ refusal denied. denied ≡ denied_of_set refusal };
+
+    fn from(refusal: SetRefusal) -> DiffDenied {
+        match refusal {
+            SetRefusal::TooMany(count) => DiffDenied::Refusal(DiffRefusal::TooMany(count)),
+            SetRefusal::NoMemory => DiffDenied::NoMemory,
+        }
     }
 }
