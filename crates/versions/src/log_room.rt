@@ -1,7 +1,7 @@
 //! The limits of a history.
 
-ghost use Rattle.std.specs.Prelude.{◌≡◌, ◌^◌, ◌<◌, IfErr, OnOk};
-ghost use Rattle.versions.specs.History.{HasNoRoom};
+ghost use Rattle.std.specs.Prelude.{◌≡◌, ◌≤◌, IfErr, OnOk};
+ghost use Rattle.versions.specs.History.{HasNoRoom, event_bytes};
 
 use room_words::{Event, LogFull};
 
@@ -16,8 +16,22 @@ pub fn log_room(entries: u32, bytes: u64, event: &Event) -> Result<(), LogFull>
     ensures room { OnOk result (HasNoRoom entries bytes event.now → ⊥) }
     ensures full { IfErr result (λ full. HasNoRoom entries bytes event.now × (full ≡ record { entries = entries; bytes = bytes })) }
 {
-    if entries >= MOST_ENTRIES || MOST_LOG_BYTES.saturating_sub(bytes) < bytes_of(event) || bytes > MOST_LOG_BYTES {
+    if entries >= MOST_ENTRIES || bytes.saturating_add(bytes_of(event)) > MOST_LOG_BYTES {
         return Err(LogFull { entries, bytes });
     }
     Ok(())
+}
+
+/// The bytes that an event counts for: an act for none, a difference for those of its written form.
+pub(crate) fn bytes_of(event: &Event) -> u64
+    ensures bytes { result ≡ event_bytes event.now }
+    ensures few { result ≤ 67108864 }
+{
+    match event {
+        Event::Act(_) => 0,
+        Event::Cutover(difference) => {
+            difference.difference().possible();
+            difference.difference().size()
+        }
+    }
 }

@@ -90,3 +90,55 @@ impl Version {
         &self.held.overlay
     }
 }
+
+impl Dated for Version {
+    type Item = Entry;
+
+    type Origin = Vec<Statement>;
+
+    ghost log = { λ v. v.log };
+
+    ghost origin = { λ v. v.base };
+
+    fn number(&self) -> u32 {
+        self.held.log.len() as u32
+    }
+
+    fn share(&self) -> Result<Version, NoMemory> {
+        Ok(Version {
+            held: Arc::try_clone(&self.held)?,
+        })
+    }
+}
+
+impl Advance for Version {
+    ghost judges = { Judges };
+
+    ghost ticks = { λ event. 0 };
+
+    fn one_judgement() {
+        histories_leave_one_network();
+    }
+
+    fn serial(&self, console: u8) -> u32 {
+        self.held.log.iter().filter(|entry| entry.console == console).count() as u32 + 1
+    }
+
+    fn entry(&self, index: u32) -> &Entry {
+        self.held.log.at(index as usize)
+    }
+
+    fn advance<L: Ledger>(
+        &self,
+        alloc: Global,
+        entry: &Entry,
+        steps: &mut Steps<L>,
+    ) -> Result<Version, Denied> {
+        let held = &*self.held;
+        if let Err(full) = log_room(held.log.len() as u32, held.bytes, &entry.event) {
+            return Err(held.refusal(Why::Log(full)));
+        }
+        let (index, overlay) = held.moved(alloc, &entry.event)?;
+        Ok(Version::of(alloc, held.with(alloc, entry, index, overlay, steps)?)?)
+    }
+}
