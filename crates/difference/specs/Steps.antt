@@ -1,9 +1,12 @@
 -- The steps by which a document of a difference is read.
-use Rattle.std.specs.Prelude.{ℕ, ◌≡◌, ◌≢◌, ◌<◌, ◌≤◌, List, [], ◌∷◌, ◌++◌, length, Option, Some, None}
+use Rattle.std.specs.Prelude.{ℕ, ◌≡◌, ◌≢◌, ◌<◌, ◌≤◌, List, [], ◌∷◌, ◌++◌, length, take, drop, Bool, ◌&&◌, Option, Some, None}
+use Rattle.std.specs.List.{list_all}
+use Rattle.std.specs.Str.{bytes_eq}
 use Rattle.cim_words.specs.declared.statement.Statement.{Statement}
+use Rattle.nt_text.specs.Grammar.{is_blank}
 use Rattle.nt_text.specs.declared.refusal.LineRefusal.{LineRefusal}
 use Rattle.nt_text.specs.declared.refusal.LineRefusal.TheVariants as why
-use Rattle.room_words.specs.Differences.{Changes, most_bytes, most_listed, written_difference}
+use Rattle.room_words.specs.Differences.{Changes, heading_text, most_bytes, most_listed, written_difference}
 use Rattle.room_words.specs.declared.heading.Heading.{Heading}
 use Rattle.room_words.specs.declared.heading.Heading.TheVariants as heading
 use Rattle.room_words.specs.declared.stage_fault.StageWord.{StageWord}
@@ -25,6 +28,13 @@ word_of why.Blank = word.Blank
 word_of why.Syntax = word.Syntax
 word_of why.Subject = word.Subject
 word_of why.Wide = word.Wide
+
+-- the headings in their order, and whether one stands on a line
+abbrev pub headings : List Heading
+headings = heading.Header ∷ heading.Preconditions ∷ heading.Reverse ∷ heading.Forward ∷ heading.End ∷ []
+
+unfoldable pub stands_on : List ℕ → Heading → Bool
+stands_on line h = bytes_eq (take (length (heading_text h)) line) (heading_text h) && list_all is_blank (drop (length (heading_text h)) line)
 
 -- no heading stands on the line that may come
 abbrev pub NoneComes : List ℕ → Standing → StageWord → Type 0

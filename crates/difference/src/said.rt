@@ -60,11 +60,13 @@ impl Said {
             return Err(DiffFault::of_line(number, StageWord::TooMany));
         }
         let size = line_length(&statement) as u64 + 1;
-        if self.statements.push(statement).is_err() {
-            return Err(DiffFault::NoMemory);
+        match self.statements.push(statement) {
+            Ok(()) => {
+                self.size += size;
+                Ok(())
+            }
+            Err(_) => Err(DiffFault::NoMemory),
         }
-        self.size += size;
-        Ok(())
     }
 
     /// How many bytes the written form of the statements has.
