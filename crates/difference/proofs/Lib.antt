@@ -1,2 +1,3 @@
 pub mod HeadingLines
+pub mod LineSteps
 pub mod Sizes
