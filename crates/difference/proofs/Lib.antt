@@ -1,3 +1,4 @@
 pub mod HeadingLines
 pub mod LineSteps
+pub mod OneDocument
 pub mod Sizes

@@ -9,7 +9,7 @@ ghost use Rattle.room_words.specs.declared.stage_fault.StageFault.{StageFault};
 
 use crate::draft::{Draft, MOST_BYTES};
 use crate::fault::DiffFault;
-use nt_text::Lines;
+use nt_text::{Lines, lines_have_one_reading};
 use room_words::{Difference, StageWord};
 use std::alloc::Global;
 
@@ -35,4 +35,6 @@ pub fn documents_have_one_reading()
     ensures differences { (bytes : List ℕ) (d e : Changes) → IsDocument bytes d → IsDocument bytes e → d ≡ e }
     ensures faults { (bytes : List ℕ) (f g : StageFault) → IsFault bytes f → IsFault bytes g → f ≡ g }
     ensures either { (bytes : List ℕ) (d : Changes) (f : StageFault) → IsDocument bytes d → IsFault bytes f → ⊥ }
-{}
+{
+    lines_have_one_reading();
+}
