@@ -1,1 +1,5 @@
+pub mod HeadingLines
+pub mod LineSteps
+pub mod OneDocument
 pub mod Results
+pub mod Sizes

@@ -1,16 +1,20 @@
 //! A version of a room.
 
-ghost use Rattle.std.specs.Prelude.{◌≡◌, [], IfOk};
+ghost use Rattle.std.specs.Prelude.{ℕ, ◌≡◌, [], List, IfOk};
 ghost use Rattle.cim_model.specs.Profile.{IsFaultless};
+ghost use Rattle.cim_words.specs.declared.statement.Statement.{Statement};
 ghost use Rattle.room_words.specs.declared.overlay.Overlay.{Overlay};
 ghost use Rattle.versions.specs.History.{IsNow};
 
 use crate::held::Held;
+use crate::laws::histories_leave_one_network;
+use crate::log_room::log_room;
+use board::Dated;
 use cim_model::the_empty_overlay_stands;
 use cim_records::Index;
-use cim_words::NoMemory;
-use desk::legal_histories_go_on;
-use room_words::Overlay;
+use cim_words::{NoMemory, Statements};
+use desk::{Advance, legal_histories_go_on};
+use room_words::{Denied, Entry, Overlay, Why};
 use shared_parts::SharedList;
 use statement_set::StatementSet;
 use std::alloc::Global;
@@ -94,7 +98,7 @@ impl Version {
 impl Dated for Version {
     type Item = Entry;
 
-    type Origin = Vec<Statement>;
+    type Origin = Statements;
 
     ghost log = { λ v. v.log };
 
@@ -112,6 +116,8 @@ impl Dated for Version {
 }
 
 impl Advance for Version {
+    ghost use Rattle.versions.specs.History.{Judges};
+
     ghost judges = { Judges };
 
     ghost ticks = { λ event. 0 };
