@@ -3,3 +3,4 @@ pub mod LineSteps
 pub mod OneDocument
 pub mod Results
 pub mod Sizes
+pub mod WrittenDocument
