@@ -70,6 +70,7 @@ fn shares_grow_apart(rt: HostRuntime) -> Result<(), Fail> {
 
 fn crosses_threads<X: Send + Sync>(_value: &X) {}
 
+/// A drop that went from each item to the one before it would run out of stack.
 #[test]
 fn holds_a_million(rt: HostRuntime) -> Result<(), Fail> {
     let numbers = counted(rt.alloc(), 1_000_000, &[])?;

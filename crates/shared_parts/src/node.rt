@@ -12,16 +12,18 @@ use std::sync::Arc;
 /// A node that may be missing: the last node of a list, which an empty list lacks.
 pub(crate) type Link<T> = Option<Arc<Node<T>>>;
 
-/// The left and the right tree under a node that is not a tree of its own.
+/// The two trees under a node, the left one first. They are of the same size; a tree of one item has none.
 type Twins<T> = Option<(Arc<Node<T>>, Arc<Node<T>>)>;
 
-/// An item of a list, and the way to the items before it.
+/// An item of a list, and the way to the items before it: it ends a complete tree, and other trees come before that one.
+///
+/// From a tree to the one before it sizes grow, so there are few trees, and a node is reached in a logarithmic number of steps.
+// Fields are dropped in this order: `before` keeps the earlier trees until those under the node are gone, so that a drop goes no deeper than a few trees are high.
 #[derive(Drop)]
 pub(crate) struct Node<T> {
     /// How many items the list has up to this one.
     len: usize,
     item: T,
-    /// The left and the right tree under this node.
     under: Twins<T>,
     /// The last node before this node's tree.
     before: Link<T>,
