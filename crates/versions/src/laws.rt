@@ -1,11 +1,13 @@
 //! What a history makes of a base.
 
-ghost use Rattle.std.specs.Prelude.{◌≡◌, List};
+ghost use Rattle.std.specs.Prelude.{◌≡◌, List, Option};
 ghost use Rattle.cim_model.specs.Profile.{IsFaultless};
 ghost use Rattle.cim_model.specs.Stands.{Stands};
 ghost use Rattle.cim_words.specs.declared.statement.Statement.{Statement};
 ghost use Rattle.room_words.specs.declared.event.Entry.{Entry};
-ghost use Rattle.versions.specs.History.{IsNow, Network};
+ghost use Rattle.room_words.specs.declared.event.Event.{Event};
+ghost use Rattle.room_words.specs.declared.refused.Why.{Why};
+ghost use Rattle.versions.specs.History.{IsNow, Judges, Network};
 
 use act_laws::accepted_acts_stand;
 use cutover::accepted_differences_stand;
@@ -22,4 +24,9 @@ pub fn histories_keep_networks_sound()
 /// A history makes one network of a base.
 pub fn histories_leave_one_network()
     ensures { (base : List Statement) (log : List Entry) (now other : Network) → IsNow base log now → IsNow base log other → now ≡ other }
+{}
+
+/// An event is judged in one way after a history of a base.
+pub fn histories_are_judged_in_one_way()
+    ensures { (base : List Statement) (log : List Entry) (event : Event) (answer other : Option Why) → Judges base log event answer → Judges base log event other → answer ≡ other }
 {}

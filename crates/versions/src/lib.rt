@@ -9,7 +9,9 @@ mod traces;
 mod version;
 
 pub use cim_words::NoMemory;
-pub use laws::{histories_keep_networks_sound, histories_leave_one_network};
+pub use laws::{
+    histories_are_judged_in_one_way, histories_keep_networks_sound, histories_leave_one_network,
+};
 pub use log_room::log_room;
 pub use traces::TraceNo;
 pub use version::Version;

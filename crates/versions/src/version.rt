@@ -7,7 +7,7 @@ ghost use Rattle.room_words.specs.declared.overlay.Overlay.{Overlay};
 ghost use Rattle.versions.specs.History.{IsNow};
 
 use crate::held::Held;
-use crate::laws::histories_leave_one_network;
+use crate::laws::histories_are_judged_in_one_way;
 use crate::log_room::log_room;
 use board::Dated;
 use cim_model::the_empty_overlay_stands;
@@ -123,7 +123,7 @@ impl Advance for Version {
     ghost ticks = { λ event. 0 };
 
     fn one_judgement() {
-        histories_leave_one_network();
+        histories_are_judged_in_one_way();
     }
 
     fn serial(&self, console: u8) -> u32 {
