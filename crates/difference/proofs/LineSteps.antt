@@ -1,11 +1,11 @@
 -- What lines do to what was said before them.
-use Rattle.std.proofs.Common.{◌≡◌, ◌≢◌, ℕ, ◌+◌, ◌<◌, ◌≤◌, List, [], ◌∷◌, ◌++◌, length, Some, refl, sym, ap, ◌∙◌, subst, append_assoc, append-nil, length-append, inl, inr, arith}
+use Rattle.std.proofs.Common.{◌≡◌, ℕ, ◌+◌, ◌<◌, ◌≤◌, List, [], ◌∷◌, ◌++◌, length, Some, refl, sym, ap, ◌∙◌, subst, append_assoc, append-nil, length-append, inl, inr, arith}
 use Rattle.cim_words.specs.declared.statement.Statement.{Statement}
 use Rattle.nt_text.specs.Document.{lines_of}
 use Rattle.nt_text.specs.Reading.{holds, refused, IsReading}
 use Rattle.nt_text.specs.declared.refusal.LineRefusal.{LineRefusal}
 use Rattle.nt_text.specs.declared.refusal.LineRefusal.TheVariants as why
-use Rattle.room_words.specs.Differences.{Changes, most_bytes, written_difference}
+use Rattle.room_words.specs.Differences.{Changes, most_bytes}
 use Rattle.room_words.specs.declared.heading.Heading.TheVariants as heading
 use Rattle.room_words.specs.declared.stage_fault.StageFault.{StageFault}
 use Rattle.room_words.specs.declared.stage_fault.StageWord.{StageWord}
@@ -13,7 +13,7 @@ use Rattle.room_words.specs.declared.stage_fault.StageWord.TheVariants as word
 use Rattle.difference.specs.declared.fault.DiffFault.{DiffFault}
 use Rattle.difference.specs.declared.fault.DiffFault.TheVariants as fault
 use Rattle.difference.specs.Document.{IsDocument, IsLine, IsMarked, Lead, Standing, at_start}
-use Rattle.difference.specs.Faults.{HasFault, HasNoEnd, IsFault, IsFaultAt, IsLineFault, IsRefused, IsWrittenTooLong}
+use Rattle.difference.specs.Faults.{HasFault, IsFault, IsFaultAt, IsLineFault}
 use Rattle.difference.specs.Steps.{Ends, EndsWrong, EndsWrongAt, Gains, GainsNone, NoneComes, Tells, word_of}
 
 -- ---- one line

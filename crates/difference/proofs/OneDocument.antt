@@ -12,7 +12,7 @@ use Rattle.room_words.specs.declared.heading.Heading.TheVariants as heading
 use Rattle.room_words.specs.declared.stage_fault.StageFault.{StageFault}
 use Rattle.room_words.specs.declared.stage_fault.StageWord.{StageWord}
 use Rattle.room_words.specs.declared.stage_fault.StageWord.TheVariants as word
-use Rattle.difference.specs.Document.{Adds, IsDocument, IsLine, IsMarked, Lead, MayCome, Names, Standing, at_start, list_of, percent, with_said}
+use Rattle.difference.specs.Document.{Adds, IsDocument, IsLine, IsMarked, Lead, Names, Standing, at_start, list_of, percent, with_said}
 use Rattle.difference.specs.Faults.{HasFault, HasNoEnd, IsBeyond, IsFault, IsFaultAt, IsLineFault, IsNoHeading, IsNowhere, IsRefused, IsWrittenTooLong}
 use Rattle.difference.specs.Steps.{word_of}
 use Rattle.difference.proofs.HeadingLines.{heading_marked, one_heading}

@@ -1,5 +1,5 @@
 -- The steps by which a document of a difference is read.
-use Rattle.std.specs.Prelude.{ℕ, ◌≡◌, ◌≢◌, ◌<◌, ◌≤◌, List, [], ◌∷◌, ◌++◌, length, take, drop, Bool, ◌&&◌, Option, Some, None}
+use Rattle.std.specs.Prelude.{ℕ, ◌≡◌, ◌≢◌, ◌<◌, ◌≤◌, List, [], ◌∷◌, ◌++◌, length, take, drop, Bool, ◌&&◌, Some, None}
 use Rattle.std.specs.List.{list_all}
 use Rattle.std.specs.Str.{bytes_eq}
 use Rattle.cim_words.specs.declared.statement.Statement.{Statement}
@@ -13,7 +13,7 @@ use Rattle.room_words.specs.declared.stage_fault.StageWord.{StageWord}
 use Rattle.room_words.specs.declared.stage_fault.StageWord.TheVariants as word
 use Rattle.difference.specs.declared.fault.DiffFault.{DiffFault}
 use Rattle.difference.specs.declared.fault.DiffFault.TheVariants as fault
-use Rattle.difference.specs.Document.{IsHeading, Lead, MayCome, Standing, at_start, list_of, with_said}
+use Rattle.difference.specs.Document.{IsHeading, MayCome, Standing, list_of, with_said}
 
 -- a fault of this line that this word tells, or want of memory
 abbrev pub Tells : ℕ → (StageWord → Type 0) → DiffFault → Type 0

@@ -40,8 +40,8 @@ impl Model for Draft {
     ghost Value = { Standing };
 
     ghost view = { λ draft. record {
-        under = draft.under;
-        said = record { header = draft.header; pre = draft.pre; rev = draft.rev; fwd = draft.fwd };
+      under = draft.under;
+      said = record { header = draft.header; pre = draft.pre; rev = draft.rev; fwd = draft.fwd };
     } };
 }
 

@@ -17,7 +17,7 @@ use std::marker::Model;
 /// How many statements a list may have.
 const MOST_LISTED: usize = 200_000;
 
-/// The statements under a heading, as contracts see it, and the length of what is written for them.
+/// The statements under a heading, as which contracts see it, and how many bytes their written form has.
 #[derive(Drop)]
 pub(crate) struct Said {
     statements: Statements,

@@ -1,9 +1,9 @@
 -- The lines of bytes, one by one.
-use Rattle.std.proofs.Common.{◌≡◌, ℕ, ◌+◌, ◌≤◌, ◌==◌, List, [], ◌∷◌, ◌++◌, Bool, true, false, length, refl, sym, ap, ◌∙◌, arith}
+use Rattle.std.proofs.Common.{◌≡◌, ℕ, ◌+◌, ◌≤◌, ◌==◌, List, [], ◌∷◌, Bool, true, false, length, refl, sym, ap, ◌∙◌, arith}
 use Rattle.std.proofs.lemmas.Bool.{eqb-true}
 use Rattle.cim_words.specs.Written.{line_feed, carriage_return}
 use Rattle.nt_text.specs.Document.{feeds_after, at_front, cut_at_feeds, lines_of}
-use Rattle.nt_text.specs.ReaderSteps.{IsPlain, IsFrontLine, last_line}
+use Rattle.nt_text.specs.ReaderSteps.{IsPlain, IsFrontLine}
 use Rattle.nt_text.proofs.Documents.{feeds_plain, cut_line, cut_last}
 use Rattle.nt_text.proofs.TakenBytes.{line_feeds}
 

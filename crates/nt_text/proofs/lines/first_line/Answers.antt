@@ -1,4 +1,4 @@
-use Rattle.std.proofs.Common.{length, take, drop, ◌-◌, ◌≡◌, arith}
+use Rattle.std.proofs.Common.{arith}
 use Rattle.std.proofs.lemmas.Grind.{common_steps}
 use Rattle.nt_text.proofs.LineLists.{no_lines, front_then, last_alone}
 use Rattle.nt_text.proofs.lines.first_line.Goals as goal

@@ -1,4 +1,4 @@
-use Rattle.std.proofs.Common.{◌≡◌, ap, ◌∙◌, length, arith}
+use Rattle.std.proofs.Common.{ap, ◌∙◌, length, arith}
 use Rattle.room_words.specs.Differences.{Changes, written_difference}
 use Rattle.difference.specs.Document.{Standing}
 use Rattle.difference.proofs.Sizes.{parts_size}

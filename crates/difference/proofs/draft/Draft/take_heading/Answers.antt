@@ -15,11 +15,17 @@ returns-in-Some-clause-ok c = record {
 
 pub returns-in_default-clause-fault : goal.returns-in_default-clause-fault
 returns-in_default-clause-fault c =
-    rw c.of_line.ensures (refl, (refl, λ h is may. let found = c.heading_of.ensures ∙ stood_found c.args.line.now h is in elim c.in_default.branch [
-      in_default-via-in-Some+else-may_come w ↦
-        let same : h ≡ w.in-Some.heading = let both = sym found ∙ w.in-Some.is in cc in
-        let P : Heading → Type 0 = MayCome c.args.self.now.under in
-        let no : false ≡ true = sym w.if-may_come.false ∙ w.may_come.ensures.1 (subst P same may) in
-        absurd cc
-    | in_default-via-in_default w ↦ w.in_default.not-Some h found
-    ]))
+    rw c.of_line.ensures (
+      refl,
+      (
+        refl,
+        λ h is may. let found = c.heading_of.ensures ∙ stood_found c.args.line.now h is in elim c.in_default.branch [
+          | in_default-via-in-Some+else-may_come w ↦
+              let same : h ≡ w.in-Some.heading = let both = sym found ∙ w.in-Some.is in cc in
+              let P : Heading → Type 0 = MayCome c.args.self.now.under in
+              let no : false ≡ true = sym w.if-may_come.false ∙ w.may_come.ensures.1 (subst P same may) in
+              absurd cc
+          | in_default-via-in_default w ↦ w.in_default.not-Some h found
+        ],
+      ),
+    )

@@ -1,6 +1,4 @@
-use Rattle.std.proofs.Common.{◌≡◌, ◌+◌, List, length, arith}
-use Rattle.std.specs.List.{flat_map}
-use Rattle.cim_words.specs.Written.{written}
+use Rattle.std.proofs.Common.{arith}
 use Rattle.difference.proofs.Sizes.{listed_more, size_more, size_small}
 use Rattle.difference.proofs.said.Said.add.Goals as goal
 
