@@ -1,9 +1,9 @@
 -- Documents of a difference: lines with headings among them, of this project (the triples are lines of RDF 1.1 N-Triples).
-use Rattle.std.specs.Prelude.{ℕ, ◌+◌, ◌≡◌, ◌≢◌, ◌<◌, ◌≤◌, ◌⊎◌, List, [], ◌∷◌, ◌++◌, length, Option, Some, None, IfSome}
+use Rattle.std.specs.Prelude.{ℕ, ◌≡◌, ◌<◌, ◌≤◌, ◌⊎◌, List, [], ◌∷◌, ◌++◌, length, Option, Some, None, IfSome}
 use Rattle.cim_words.specs.declared.statement.Statement.{Statement}
 use Rattle.nt_text.specs.Document.{lines_of}
 use Rattle.nt_text.specs.Grammar.{IsGap}
-use Rattle.nt_text.specs.Reading.{nothing, holds, refused, IsReading}
+use Rattle.nt_text.specs.Reading.{nothing, holds, IsReading}
 use Rattle.room_words.specs.Differences.{Changes, heading_text, most_bytes, most_listed, written_difference}
 use Rattle.room_words.specs.declared.heading.Heading.{Heading}
 use Rattle.room_words.specs.declared.heading.Heading.TheVariants as heading

@@ -7,7 +7,6 @@ use Rattle.nt_text.specs.Cut.{IsFreeOf}
 use Rattle.nt_text.specs.Document.{feeds_after, cut_at_feeds, lines_of, AreRead, IsDocument}
 use Rattle.nt_text.specs.Reader.{ReaderState, HasRead, HasFailed, IsFaultOf, ends_in_return}
 use Rattle.nt_text.specs.ReaderSteps.{IsPlain, IsEnd, is_half, last_line, IsLineFault}
-
 use Rattle.nt_text.specs.declared.refusal.LineRefusal.TheVariants as why
 use Rattle.nt_text.specs.declared.refusal.NtFault.{NtFault}
 use Rattle.nt_text.specs.declared.refusal.NtFault.TheVariants as fault

@@ -21,4 +21,4 @@ pub use reading::{
     LINE_LIMIT, lines_have_one_reading, read_line, read_written, written_lines_are_read,
 };
 pub use refusal::{LineFault, LineRefusal, NtFault};
-pub use writing::{lines_are_whole, lines_differ, write_statement};
+pub use writing::{lines_are_cut_apart, lines_are_whole, lines_differ, write_statement};

@@ -1,10 +1,11 @@
 //! Statements as lines.
 
-ghost use Rattle.std.specs.Prelude.{◌≡◌, ◌++◌, IfOk, OnOk, OnErr};
+ghost use Rattle.std.specs.Prelude.{◌≡◌, ℕ, List, [], ◌∷◌, ◌++◌, IfOk, OnOk, OnErr};
 ghost use Rattle.cim_words.specs.Held.{IsStatement};
 ghost use Rattle.cim_words.specs.Written as spec;
 ghost use Rattle.cim_words.specs.declared.statement.Statement.{Statement};
 ghost use Rattle.nt_text.specs.Cut.{IsFreeOf};
+ghost use Rattle.nt_text.specs.Document.{lines_of};
 
 use crate::spelling::{Coding, push_text};
 use cim_words::{Id, NoMemory, Object, Statement};
@@ -74,9 +75,16 @@ fn push_object(object: &Object, into: &mut Vec<u8>) -> Result<(), NoMemory>
     }
 }
 
-/// The line of a statement is one line: it has no line feed.
+/// The line of a statement is one line: it has no line feed, and no carriage return.
 pub fn lines_are_whole()
-    ensures { (s : Statement) → IsFreeOf spec.line_feed (spec.written_line s) }
+    ensures no_feed { (s : Statement) → IsFreeOf spec.line_feed (spec.written_line s) }
+    ensures no_return { (s : Statement) → IsFreeOf spec.carriage_return (spec.written_line s) }
+{}
+
+/// A document that begins with a line and a line feed has that line first, and then the lines of what follows.
+pub fn lines_are_cut_apart()
+    ensures none { lines_of [] ≡ [] }
+    ensures first { (line rest : List ℕ) → IsFreeOf spec.line_feed line → IsFreeOf spec.carriage_return line → lines_of (line ++ spec.line_feed ∷ rest) ≡ line ∷ lines_of rest }
 {}
 
 /// A line is that of one statement.
