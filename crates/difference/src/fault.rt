@@ -1,7 +1,10 @@
 //! Why there is no reading of a document.
 
+ghost use Rattle.std.specs.Prelude.{◌≡◌};
+ghost use Rattle.difference.specs.declared.fault.DiffFault.TheVariants.{Stage as stage};
+
 use cim_words::NoMemory;
-use room_words::StageFault;
+use room_words::{StageFault, StageWord};
 use thiserror::Error;
 
 /// Why there is no reading of a document of a difference.
@@ -13,6 +16,15 @@ pub enum DiffFault {
     /// Memory did not suffice.
     #[error("out of memory")]
     NoMemory,
+}
+
+impl DiffFault {
+    /// What is wrong with a line.
+    pub(crate) fn of_line(line: u32, word: StageWord) -> DiffFault
+        ensures { result ≡ stage (record { line = line; word = word }) }
+    {
+        DiffFault::Stage(StageFault { line, word })
+    }
 }
 
 impl From<NoMemory> for DiffFault {

@@ -6,6 +6,7 @@ pub mod Free
 pub mod FrontLines
 pub mod HexDigits
 pub mod Insides
+pub mod LineLists
 pub mod LineReads
 pub mod LiteralEnds
 pub mod OneDocument

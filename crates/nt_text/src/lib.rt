@@ -4,6 +4,8 @@
 mod characters;
 mod cut;
 mod ends;
+mod lengths;
+mod lines;
 mod quotes;
 mod reader;
 mod reading;
@@ -16,6 +18,8 @@ mod writing;
 
 pub use cim_words::NoMemory;
 pub use cut::cut_at;
+pub use lengths::line_length;
+pub use lines::Lines;
 pub use reader::{LineReader, documents_have_one_reading, read_document};
 pub use reading::{
     LINE_LIMIT, lines_have_one_reading, read_line, read_written, written_lines_are_read,

@@ -17,7 +17,7 @@ use std::alloc::Global;
 use std::marker::Model;
 
 /// The first line that ends in the bytes, the byte that ends it, and what follows.
-fn front_line(bytes: &[u8]) -> Option<(&[u8], u8, &[u8])>
+pub(crate) fn front_line(bytes: &[u8]) -> Option<(&[u8], u8, &[u8])>
     ensures found { IfSome result (λ front. IsFrontLine bytes.now front.0.now front.1 front.2.now) }
     ensures none { IfNone result (IsPlain bytes.now) }
 {
