@@ -1,6 +1,7 @@
 //! Differences judged on a small feeder under temporary items and positions, one after another.
 
 use crate::texts::{full, statements};
+use Want::{Leaves, Refused};
 use cim_profile::first_break;
 use cim_records::Index;
 use cim_words::{Id, Length, Listed, PhaseSet};
@@ -11,8 +12,6 @@ use statement_set::StatementSet;
 use std::alloc::Global;
 use std::test::Fail;
 use temporary::overlay_stands;
-
-use Want::{Leaves, Refused};
 
 /// The nodes a1, a2 and a3, the source e1, the breaker b1, the segment 51 of 100 m and the consumer c1, one behind another: 29 statements.
 const FEEDER: &str = r#"~a1> a <:ConnectivityNode> .
