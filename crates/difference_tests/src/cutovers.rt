@@ -1,6 +1,7 @@
 //! Differences judged on a small feeder under temporary items and positions, one after another.
 
 use crate::texts::{full, statements};
+use Want::{Leaves, Refused};
 use cim_profile::first_break;
 use cim_records::Index;
 use cim_words::{Id, Length, Listed, PhaseSet};
@@ -11,8 +12,6 @@ use statement_set::StatementSet;
 use std::alloc::Global;
 use std::test::Fail;
 use temporary::overlay_stands;
-
-use Want::{Leaves, Refused};
 
 /// The nodes a1, a2 and a3, the source e1, the breaker b1, the segment 51 of 100 m and the consumer c1, one behind another: 29 statements.
 const FEEDER: &str = r#"~a1> a <:ConnectivityNode> .
@@ -145,6 +144,13 @@ const BREAKER_IS_BUSBAR: &str = r#"%reverse
 ~b1> a <:BusbarSection> .
 %end"#;
 
+const BUSBAR_AND_NODE: &str = r#"%reverse
+~b1> a <:Breaker> .
+%forward
+~b1> a <:BusbarSection> .
+~92> a <:ConnectivityNode> .
+%end"#;
+
 const BREAKER_IS_FUSE: &str = r#"%reverse
 ~b1> a <:Breaker> .
 %forward
@@ -182,35 +188,58 @@ const NODE_92: &str = "%forward\n~92> a <:ConnectivityNode> .\n%end";
 
 const NODE_91: &str = "%forward\n~91> a <:ConnectivityNode> .\n%end";
 
-const fn id(end: u128) -> Id {
-    Id {
-        number: 0x0000_0000_0000_4000_8000_0000_0000_0000 | end,
-    }
-}
+/// What all identifiers have in front.
+const FRONT: u128 = 0x0000_0000_0000_4000_8000_0000_0000_0000;
 
-const S51: Id = id(0x51);
+const S51: Id = Id {
+    number: FRONT + 0x51,
+};
+
+const B1: Id = Id {
+    number: FRONT + 0xB1,
+};
+
+const T76: Id = Id {
+    number: FRONT + 0x76,
+};
+
+const I91: Id = Id {
+    number: FRONT + 0x91,
+};
+
+const I92: Id = Id {
+    number: FRONT + 0x92,
+};
+
+const I97: Id = Id {
+    number: FRONT + 0x97,
+};
+
+const A3: Id = Id {
+    number: FRONT + 0xA3,
+};
 
 const CUT_92: TempItem = TempItem::Cut {
-    id: id(0x92),
+    id: I92,
     segment: S51,
     length: Length { mm: 60_000 },
     is_open: true,
 };
 
 const CLAMP_91: TempItem = TempItem::Clamp {
-    id: id(0x91),
+    id: I91,
     segment: S51,
     length: Length { mm: 60_001 },
 };
 
 const GROUND_97: TempItem = TempItem::Ground {
-    id: id(0x97),
-    at: Anchor::Node(id(0xA3)),
+    id: I97,
+    at: Anchor::Node(A3),
     phases: PhaseSet::ABC,
 };
 
 const B1_OPEN: Position = Position {
-    switch: id(0xB1),
+    switch: B1,
     is_open: true,
 };
 
@@ -226,7 +255,7 @@ type Step = (&'static str, Want);
 /// The temporary items, the positions in force, and differences one after another, each on the model that the ones before it left.
 type Case = (&'static [TempItem], &'static [Position], &'static [Step]);
 
-const CASES: [Case; 11] = [
+const CASES: [Case; 12] = [
     // What is missing is told by its number: preconditions first, and both on the model as it was.
     (
         &[],
@@ -268,7 +297,7 @@ const CASES: [Case; 11] = [
         &[],
         &[
             (TWO_LENGTHS, Refused(DiffRefusal::Profile(2, S51))),
-            (NO_EQUIPMENT, Refused(DiffRefusal::Profile(3, id(0x76)))),
+            (NO_EQUIPMENT, Refused(DiffRefusal::Profile(3, T76))),
             (NO_TYPE, Refused(DiffRefusal::Profile(1, S51))),
         ],
     ),
@@ -276,7 +305,7 @@ const CASES: [Case; 11] = [
     (
         &[CUT_92],
         &[],
-        &[(SEGMENT_LEAVES, Refused(DiffRefusal::Place(id(0x92))))],
+        &[(SEGMENT_LEAVES, Refused(DiffRefusal::Place(I92)))],
     ),
     (
         &[],
@@ -291,10 +320,11 @@ const CASES: [Case; 11] = [
         &[CUT_92, CLAMP_91],
         &[B1_OPEN],
         &[
-            (SEGMENT_LEAVES, Refused(DiffRefusal::Place(id(0x92)))),
-            (NODE_91, Refused(DiffRefusal::Place(id(0x91)))),
-            (NODE_92, Refused(DiffRefusal::Place(id(0x92)))),
-            (BREAKER_LEAVES, Refused(DiffRefusal::Place(id(0xB1)))),
+            (SEGMENT_LEAVES, Refused(DiffRefusal::Place(I92))),
+            (NODE_91, Refused(DiffRefusal::Place(I91))),
+            (NODE_92, Refused(DiffRefusal::Place(I92))),
+            (BUSBAR_AND_NODE, Refused(DiffRefusal::Place(I92))),
+            (BREAKER_LEAVES, Refused(DiffRefusal::Place(B1))),
         ],
     ),
     // A position needs a switch, of any class.
@@ -302,8 +332,8 @@ const CASES: [Case; 11] = [
         &[],
         &[B1_OPEN],
         &[
-            (BREAKER_LEAVES, Refused(DiffRefusal::Place(id(0xB1)))),
-            (BREAKER_IS_BUSBAR, Refused(DiffRefusal::Place(id(0xB1)))),
+            (BREAKER_LEAVES, Refused(DiffRefusal::Place(B1))),
+            (BREAKER_IS_BUSBAR, Refused(DiffRefusal::Place(B1))),
             (BREAKER_IS_FUSE, Leaves(29)),
         ],
     ),
@@ -313,19 +343,20 @@ const CASES: [Case; 11] = [
         &[CUT_92],
         &[],
         &[
-            (IS_59, Refused(DiffRefusal::Place(id(0x92)))),
+            (IS_59, Refused(DiffRefusal::Place(I92))),
             (IS_60, Leaves(29)),
         ],
     ),
-    // A ground keeps its node.
+    // A node does not go from under a ground.
     (
         &[GROUND_97],
         &[],
         &[
+            (CONSUMER_LEAVES, Refused(DiffRefusal::Place(I97))),
             (SEGMENT_LEAVES, Leaves(19)),
-            (CONSUMER_LEAVES, Refused(DiffRefusal::Reverse(5))),
         ],
     ),
+    (&[], &[], &[(CONSUMER_LEAVES, Leaves(23))]),
 ];
 
 /// The model that a difference leaves, or why it is refused.

@@ -1,10 +1,9 @@
 //! Documents of a few lines: headings, triples among them, line ends, and faults.
 
 use crate::texts::{Says, full, said};
+use StageWord::{Blank, Heading, NoEnd, Subject, Syntax, Utf8};
 use room_words::StageWord;
 use std::test::Fail;
-
-use StageWord::{Blank, Heading, NoEnd, Subject, Syntax, Utf8};
 
 /// Documents in short, and what they say.
 const DOCUMENTS: &[(&str, Says)] = &[
@@ -18,7 +17,10 @@ const DOCUMENTS: &[(&str, Says)] = &[
         "%preconditions\n~51> <p> \"v\" .\n%forward\n~51> <p> \"w\" .\n~51> <p> \"w\" .\n%end\n",
         Says::Lists(0, 1, 0, 2),
     ),
-    ("%reverse\n~51> <p> \"v\" .\n%end\n", Says::Lists(0, 0, 1, 0)),
+    (
+        "%reverse\n~51> <p> \"v\" .\n%end\n",
+        Says::Lists(0, 0, 1, 0),
+    ),
     // Empty lines and comments stand anywhere.
     (
         "\n# before\n \t# and more\n%reverse\n\n# _:x\n~51> <p> \"v\" . # %end\n%end\n\n# after\n",
@@ -29,8 +31,14 @@ const DOCUMENTS: &[(&str, Says)] = &[
         "%header\r\n~51> <p> \"v\" .\r\n%end\r\n",
         Says::Lists(1, 0, 0, 0),
     ),
-    ("%reverse\r~51> <p> \"v\" .\r%end\r", Says::Lists(0, 0, 1, 0)),
-    ("%forward\n\r~51> <p> \"v\" .\n\r%end", Says::Lists(0, 0, 0, 1)),
+    (
+        "%reverse\r~51> <p> \"v\" .\r%end\r",
+        Says::Lists(0, 0, 1, 0),
+    ),
+    (
+        "%forward\n\r~51> <p> \"v\" .\n\r%end",
+        Says::Lists(0, 0, 0, 1),
+    ),
     (
         "%forward \t\n~51> <p> \"v\" .\n%end \t ",
         Says::Lists(0, 0, 0, 1),
@@ -42,7 +50,10 @@ const DOCUMENTS: &[(&str, Says)] = &[
     ("\r\n\r", Says::Fault(2, NoEnd)),
     ("%forward\n~51> <p> \"v\" .\n", Says::Fault(2, NoEnd)),
     ("%forward\n~51> <p> \"v\" .", Says::Fault(2, NoEnd)),
-    ("%header\n%preconditions\n%reverse\n%forward\n\n", Says::Fault(5, NoEnd)),
+    (
+        "%header\n%preconditions\n%reverse\n%forward\n\n",
+        Says::Fault(5, NoEnd),
+    ),
     // What begins with a percent sign and is no heading.
     ("%", Says::Fault(1, Heading)),
     ("%End\n%end", Says::Fault(1, Heading)),
@@ -61,7 +72,10 @@ const DOCUMENTS: &[(&str, Says)] = &[
     ("%end\n%header", Says::Fault(2, Heading)),
     // Triples where none may stand.
     ("~51> <p> \"v\" .\n%end", Says::Fault(1, Heading)),
-    ("\r\n# c\r\n~51> <p> \"v\" .\r\n%end", Says::Fault(3, Heading)),
+    (
+        "\r\n# c\r\n~51> <p> \"v\" .\r\n%end",
+        Says::Fault(3, Heading),
+    ),
     ("%end\n\n~51> <p> \"v\" .", Says::Fault(3, Heading)),
     // Lines that are refused, wherever they stand.
     ("%reverse\n_:b <p> <q> .\n%end", Says::Fault(2, Blank)),
@@ -70,7 +84,10 @@ const DOCUMENTS: &[(&str, Says)] = &[
     ("%reverse\n~51> <p> \"v\"\n%end", Says::Fault(2, Syntax)),
     ("x\n%end", Says::Fault(1, Syntax)),
     ("%end\nx", Says::Fault(2, Syntax)),
-    ("%reverse\n<http://x/y> <p> \"v\" .\n%end", Says::Fault(2, Subject)),
+    (
+        "%reverse\n<http://x/y> <p> \"v\" .\n%end",
+        Says::Fault(2, Subject),
+    ),
     ("<http://x/y> <p> \"v\" .", Says::Fault(1, Subject)),
     ("%end\n<http://x/y> <p> \"v\" .", Says::Fault(2, Subject)),
     // The first line at fault decides, and goes before the missing end.

@@ -14,8 +14,14 @@ use std::test::Fail;
 /// Documents, and how many statements there are then: those that are too many are not in the model.
 const DOCUMENTS: [(&str, usize); 6] = [
     ("%forward\n~f1> <p> \"v\" .\n%end", 1_000_000),
-    ("%forward\n~f1> <p> \"v\" .\n~f1> <p> \"v\" .\n%end", 1_000_000),
-    ("%forward\n~f1> <p> \"v\" .\n~f2> <p> \"v\" .\n%end", 1_000_001),
+    (
+        "%forward\n~f1> <p> \"v\" .\n~f1> <p> \"v\" .\n%end",
+        1_000_000,
+    ),
+    (
+        "%forward\n~f1> <p> \"v\" .\n~f2> <p> \"v\" .\n%end",
+        1_000_001,
+    ),
     // It has a fault too, which comes later.
     (
         "%forward\n~f1> a <:ACLineSegment> .\n~f2> <p> \"v\" .\n~f3> <p> \"v\" .\n%end",

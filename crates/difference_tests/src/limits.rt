@@ -1,12 +1,11 @@
 //! Documents at the edge of what a difference can have.
 
 use crate::texts::{Says, full, said};
+use StageWord::{Heading, LineTooLong, Syntax, TooLong, TooMany, Wide};
 use cim_words::NoMemory;
 use room_words::StageWord;
 use std::alloc::Global;
 use std::test::Fail;
-
-use StageWord::{Heading, LineTooLong, Syntax, TooLong, TooMany, Wide};
 
 /// How many triples stand under the four headings, what stands in front of the last heading, and what the document says.
 const LISTS: [([usize; 4], &str, Says); 6] = [
@@ -100,14 +99,7 @@ fn triple(alloc: Global, letters: usize) -> Result<String, NoMemory> {
 fn tripled(alloc: Global, last: usize, end: &str) -> Result<String, NoMemory> {
     let triples = triple(alloc, 8_136)?.repeat(alloc, 8_191)?;
     let last = triple(alloc, last)?;
-    [
-        "%forward\n",
-        triples.as_str(),
-        last.as_str(),
-        "%end\n",
-        end,
-    ]
-    .concat(alloc)
+    ["%forward\n", triples.as_str(), last.as_str(), "%end\n", end].concat(alloc)
 }
 
 #[test]
@@ -149,7 +141,11 @@ fn counts_bytes_of_lines(rt: HostRuntime) -> Result<(), Fail> {
     for (begin, piece, count, end, want) in LINES {
         let pieces = piece.repeat(rt.alloc(), count)?;
         let document = [begin, pieces.as_str(), end].concat(rt.alloc())?;
-        assert_eq!(rt; said(rt.alloc(), document.as_bytes())?, want, "{count} of {piece}");
+        assert_eq!(rt;
+            said(rt.alloc(), document.as_bytes())?,
+            want,
+            "{count} of {piece}"
+        );
     }
     Ok(())
 }

@@ -55,7 +55,18 @@ const ENDS: [&str; 6] = ["\n", "\n", "\r\n", "\n", "\r", "\n\r\n"];
 
 /// What is put into a damaged document.
 const PIECES: [&[u8]; 12] = [
-    b"%", b"\n", b"\r", b" ", b"#", b"<", b".", b"\xFF", b"_:", b"\n%end\n", b"%forward\n", b"",
+    b"%",
+    b"\n",
+    b"\r",
+    b" ",
+    b"#",
+    b"<",
+    b".",
+    b"\xFF",
+    b"_:",
+    b"\n%end\n",
+    b"%forward\n",
+    b"",
 ];
 
 /// Numbers that look random: a linear congruential generator (Knuth's MMIX).
@@ -143,7 +154,11 @@ fn is_written(alloc: Global, difference: &Difference, plain: &Plain) -> Result<b
     let mut text = Vec::new(alloc);
     write(difference, &mut text)?;
     let again = read(alloc, &text)?;
-    Ok(text == plain.text(alloc)? && text.len() as u64 == difference.size() && is_said(&again, plain))
+    Ok(
+        text == plain.text(alloc)?
+            && text.len() as u64 == difference.size()
+            && is_said(&again, plain),
+    )
 }
 
 /// How many of the words came: a bit for each but those of limits, and one for a difference.

@@ -8,7 +8,10 @@ use std::test::Fail;
 
 /// Documents in short, and the text that is written for what they say.
 const WRITTEN: &[(&str, &str)] = &[
-    ("%end", "%header\n%preconditions\n%reverse\n%forward\n%end\n"),
+    (
+        "%end",
+        "%header\n%preconditions\n%reverse\n%forward\n%end\n",
+    ),
     (
         "%preconditions\r\n<x#_00000000-0000-4000-8000-000000000051> a <:ACLineSegment> .\r\n%reverse \t\n~51><:Conductor.length>\"100\"^^<d>. # as it was\n%forward\n~51> <:Conductor.length> \"10\\u0031\"@en .\n\n~51> <p> <a\\u003Cb> .\n~51> <p> <a\\u003cb> .\n%end ",
         "%header\n%preconditions\n<urn:uuid:00000000-0000-4000-8000-000000000051> <http://www.w3.org/1999/02/22-rdf-syntax-ns#type> <http://iec.ch/TC57/CIM100#ACLineSegment> .\n%reverse\n<urn:uuid:00000000-0000-4000-8000-000000000051> <http://iec.ch/TC57/CIM100#Conductor.length> \"100\" .\n%forward\n<urn:uuid:00000000-0000-4000-8000-000000000051> <http://iec.ch/TC57/CIM100#Conductor.length> \"101\" .\n<urn:uuid:00000000-0000-4000-8000-000000000051> <p> <a\\u003Cb> .\n<urn:uuid:00000000-0000-4000-8000-000000000051> <p> <a\\u003Cb> .\n%end\n",
@@ -44,8 +47,14 @@ fn says_the_same(alloc: Global, document: &[u8], want: &str) -> Result<bool, NoM
 fn writes_differences(rt: HostRuntime) -> Result<(), Fail> {
     for (short, want) in WRITTEN {
         let document = full(rt.alloc(), short)?;
-        assert!(rt; is_written(rt.alloc(), document.as_bytes(), want)?, "{short}");
-        assert!(rt; says_the_same(rt.alloc(), document.as_bytes(), want)?, "{short}");
+        assert!(rt;
+            is_written(rt.alloc(), document.as_bytes(), want)?,
+            "{short}"
+        );
+        assert!(rt;
+            says_the_same(rt.alloc(), document.as_bytes(), want)?,
+            "{short}"
+        );
     }
     assert!(rt; WRITTEN[0].1.len() == 46);
     Ok(())
