@@ -11,7 +11,7 @@ ghost use Rattle.versions.specs.Held.{Agrees, now_in};
 ghost use Rattle.versions.specs.History.{Judges, Refuses, Takes};
 
 use crate::held::Held;
-use crate::log_room::bytes_of;
+use crate::limits::bytes_of;
 use act_laws::accepted_acts_stand;
 use cim_records::Index;
 use cim_words::NoMemory;

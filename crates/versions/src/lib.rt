@@ -4,7 +4,7 @@
 mod advances;
 mod held;
 mod laws;
-mod log_room;
+mod limits;
 mod traces;
 mod version;
 
@@ -12,6 +12,6 @@ pub use cim_words::NoMemory;
 pub use laws::{
     histories_are_judged_in_one_way, histories_keep_networks_sound, histories_leave_one_network,
 };
-pub use log_room::log_room;
+pub use limits::log_room;
 pub use traces::TraceNo;
 pub use version::Version;

@@ -5,6 +5,7 @@ ghost use Rattle.versions.specs.Traced.{HasNoSource, IsTraceOf};
 ghost use Rattle.versions.specs.declared.traces.TraceNo.TheVariants.{NoSuch as no_such};
 
 use crate::version::Version;
+use board::Dated;
 use cim_words::{Id, NoMemory, PhaseSet};
 use feeder_trace::{NoSuch, Tracer};
 use room_words::{write_trace_head, write_trace_row};

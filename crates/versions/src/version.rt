@@ -8,7 +8,7 @@ ghost use Rattle.versions.specs.History.{IsNow};
 
 use crate::held::Held;
 use crate::laws::histories_are_judged_in_one_way;
-use crate::log_room::log_room;
+use crate::limits::log_room;
 use board::Dated;
 use cim_model::the_empty_overlay_stands;
 use cim_records::Index;
