@@ -13,7 +13,7 @@ returns-in-Some-first_lost-clause-refused c m d why leaves few same =
     let id = c.in-Some-first_lost.lost.id in
     let faultless : IsFaultless c.args.model.now = search rules in
     let lost : IsFirstLost c.args.model.now o (Some id) =
-        subst (λ (index : List Statement). IsFirstLost index o (Some id)) (c.in_ok-index.ensures {u = tt}) c.in-Some-first_lost.ensures in
+    subst (λ (index : List Statement). IsFirstLost index o (Some id)) (c.in_ok-index.ensures {u = tt}) c.in-Some-first_lost.ensures in
     let told : refusal.Place id ≡ why = cc in
     subst (IsRefused m o d) told (c.args.model.now, leaves, few, faultless, lost)
 
