@@ -1,0 +1,3 @@
+mod Firsts
+mod OneAnswer
+mod OneJudgement

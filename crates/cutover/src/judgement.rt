@@ -20,7 +20,7 @@ use cim_records::Index;
 use cim_words::NoMemory;
 use difference::{apply, first_missing};
 use room_words::{DiffRefusal, Difference, Overlay};
-use statement_set::StatementSet;
+use statement_set::{StatementSet, one_set};
 use std::alloc::Global;
 use temporary::first_lost;
 
@@ -85,3 +85,12 @@ fn unfit(
 pub fn accepted_differences_stand()
     ensures { (m : List Statement) (o : Overlay) (d : Changes) (result : List Statement) → Stands m o → IsAccepted m o d result → Stands result o }
 {}
+
+/// A difference is judged in one way: it leaves one model, or it is refused for one reason.
+pub fn differences_have_one_judgement()
+    ensures accepted { (m : List Statement) (o : Overlay) (d : Changes) (a b : List Statement) → IsAccepted m o d a → IsAccepted m o d b → a ≡ b }
+    ensures refused { (m : List Statement) (o : Overlay) (d : Changes) (why other : DiffRefusal) → IsRefused m o d why → IsRefused m o d other → why ≡ other }
+    ensures either { (m : List Statement) (o : Overlay) (d : Changes) (a : List Statement) (why : DiffRefusal) → IsAccepted m o d a → IsRefused m o d why → ⊥ }
+{
+    one_set();
+}

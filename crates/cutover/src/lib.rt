@@ -6,4 +6,4 @@ mod judgement;
 
 pub use cim_words::NoMemory;
 pub use denied::DiffDenied;
-pub use judgement::{accepted_differences_stand, judge_difference};
+pub use judgement::{accepted_differences_stand, differences_have_one_judgement, judge_difference};

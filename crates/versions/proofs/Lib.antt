@@ -1,0 +1,3 @@
+mod OneJudgement
+mod OneNetwork
+mod Sound

@@ -1,10 +1,10 @@
 //! What an event makes of a version.
 
-ghost use Rattle.std.specs.Prelude.{ℕ, ◌≡◌, ◌++◌, ◌∷◌, [], List, length, Option, None, Some, Err, IfOk};
+ghost use Rattle.std.specs.Prelude.{◌≡◌, ◌<◌, ◌^◌, ◌++◌, ◌∷◌, [], length, Err, IfOk};
 ghost use Rattle.cim_model.specs.Profile.{IsFaultless};
 ghost use Rattle.cim_model.specs.Stands.{Stands};
 ghost use Rattle.desk.specs.Legal.{IsNext};
-ghost use Rattle.room_words.specs.declared.event.Event.{Event};
+ghost use Rattle.room_words.specs.declared.event.Event.TheVariants as event;
 ghost use Rattle.room_words.specs.declared.refused.Denied.TheVariants as denied;
 ghost use Rattle.room_words.specs.declared.refused.Refused.{Refused};
 ghost use Rattle.versions.specs.Held.{Agrees, now_in};
@@ -12,6 +12,7 @@ ghost use Rattle.versions.specs.History.{Judges, Refuses, Takes};
 
 use crate::held::Held;
 use crate::limits::bytes_of;
+use crate::version::Version;
 use act_laws::accepted_acts_stand;
 use cim_records::Index;
 use cim_words::NoMemory;
@@ -48,6 +49,9 @@ impl Held {
     /// The overlay that an act leaves.
     fn overlay_after(&self, alloc: Global, act: &Act) -> Result<Overlay, Denied>
         requires { Agrees self.now }
+        ensures takes { IfOk result (λ overlay. Takes (now_in self.now) (event.Act act.now) (record { model = self.now.index; overlay = overlay })) }
+        ensures stands { IfOk result (λ overlay. Stands self.now.index overlay) }
+        ensures refused { (why : Refused) → result ≡ Err (denied.Refused why) → (why.at ≡ length self.now.log) × Refuses (now_in self.now) (event.Act act.now) why.why }
     {
         accepted_acts_stand();
         match judge(alloc, &self.index, &self.overlay, act) {
@@ -60,6 +64,9 @@ impl Held {
     /// The index of the model that a difference leaves.
     fn index_after(&self, alloc: Global, difference: &Difference) -> Result<Index, Denied>
         requires { Agrees self.now }
+        ensures takes { IfOk result (λ index. Takes (now_in self.now) (event.Cutover difference.now) (record { model = index; overlay = self.now.overlay })) }
+        ensures stands { IfOk result (λ index. IsFaultless index × Stands index self.now.overlay) }
+        ensures refused { (why : Refused) → result ≡ Err (denied.Refused why) → (why.at ≡ length self.now.log) × Refuses (now_in self.now) (event.Cutover difference.now) why.why }
     {
         accepted_differences_stand();
         match judge_difference(alloc, self.index.set(), &self.overlay, difference) {
@@ -95,6 +102,7 @@ impl Held {
         requires stands { IsFaultless index × Stands index overlay }
         ensures { IfOk result (λ held. Agrees held × (held.base ≡ self.now.base) × (held.log ≡ self.now.log ++ entry.now ∷ [])) }
     {
+        legal_histories_go_on::<Version>();
         let graph = rebuild(alloc, &index, &overlay, steps)?;
         let mut log = self.log.share()?;
         log.push(entry.share()?).map_err(|refusal| refusal.0)?;

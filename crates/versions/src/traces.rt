@@ -1,6 +1,7 @@
 //! Traces of a version.
 
-ghost use Rattle.std.specs.Prelude.{◌≡◌, ◌++◌, ℕ, List, Err, OnErr, OnOk};
+ghost use Rattle.std.specs.Prelude.{◌≡◌, ◌++◌, ℕ, List, Err, IfOk, OnErr, OnOk};
+ghost use Rattle.room_words.specs.TraceText.{trace_text};
 ghost use Rattle.versions.specs.Traced.{HasNoSource, IsTraceOf};
 ghost use Rattle.versions.specs.declared.traces.TraceNo.TheVariants.{NoSuch as no_such};
 

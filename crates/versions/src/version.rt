@@ -4,6 +4,7 @@ ghost use Rattle.std.specs.Prelude.{ℕ, ◌≡◌, [], List, IfOk};
 ghost use Rattle.cim_model.specs.Profile.{IsFaultless};
 ghost use Rattle.cim_words.specs.declared.statement.Statement.{Statement};
 ghost use Rattle.room_words.specs.declared.overlay.Overlay.{Overlay};
+ghost use Rattle.versions.specs.Held.{Agrees, past_of};
 ghost use Rattle.versions.specs.History.{IsNow};
 
 use crate::held::Held;
