@@ -1,3 +1,4 @@
 mod OneJudgement
 mod OneNetwork
 mod Sound
+pub mod Agreeing

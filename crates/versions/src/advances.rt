@@ -12,12 +12,10 @@ ghost use Rattle.versions.specs.History.{Judges, Refuses, Takes};
 
 use crate::held::Held;
 use crate::limits::bytes_of;
-use crate::version::Version;
 use act_laws::accepted_acts_stand;
 use cim_records::Index;
 use cim_words::NoMemory;
 use cutover::{DiffDenied, accepted_differences_stand, judge_difference};
-use desk::legal_histories_go_on;
 use room_words::{Act, Denied, Difference, Entry, Event, Overlay, Refused, Why};
 use shared_parts::Share;
 use std::alloc::Global;
@@ -102,10 +100,11 @@ impl Held {
         requires stands { IsFaultless index × Stands index overlay }
         ensures { IfOk result (λ held. Agrees held × (held.base ≡ self.now.base) × (held.log ≡ self.now.log ++ entry.now ∷ [])) }
     {
-        legal_histories_go_on::<Version>();
         let graph = rebuild(alloc, &index, &overlay, steps)?;
         let mut log = self.log.share()?;
-        log.push(entry.share()?).map_err(|refusal| refusal.0)?;
+        if let Err((failed, _)) = log.push(entry.share()?) {
+            return Err(failed);
+        }
         Ok(Held {
             base: self.base.share()?,
             log,

@@ -14,7 +14,7 @@ use board::Dated;
 use cim_model::the_empty_overlay_stands;
 use cim_records::Index;
 use cim_words::{NoMemory, Statements};
-use desk::{Advance, legal_histories_go_on};
+use desk::Advance;
 use room_words::{Denied, Entry, Overlay, Why};
 use shared_parts::SharedList;
 use statement_set::StatementSet;
@@ -145,7 +145,12 @@ impl Advance for Version {
         if let Err(full) = log_room(held.log.len() as u32, held.bytes, &entry.event) {
             return Err(held.refusal(Why::Log(full)));
         }
-        let (index, overlay) = held.moved(alloc, &entry.event)?;
-        Ok(Version::of(alloc, held.with(alloc, entry, index, overlay, steps)?)?)
+        match held.moved(alloc, &entry.event) {
+            Ok((index, overlay)) => {
+                let held = held.with(alloc, entry, index, overlay, steps)?;
+                Ok(Version::of(alloc, held)?)
+            }
+            Err(denied) => Err(denied),
+        }
     }
 }
