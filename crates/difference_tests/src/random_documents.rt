@@ -88,7 +88,7 @@ impl Random {
         (self.state >> 33) as usize % bound
     }
 
-    /// The next heading, or rarely another one, and then a few lines.
+    /// The next heading, or rarely another one, and then a few lines: fewer behind the last heading.
     fn part(&mut self, alloc: Global, next: usize) -> Result<String, NoMemory> {
         let heading = if self.below(16) == 0 {
             HEADINGS[self.below(8)]
@@ -104,7 +104,7 @@ impl Random {
         Ok(text)
     }
 
-    /// A line: one of the last four, which are refused, is rare; behind the last heading triples are rare too.
+    /// A line. The last four, which are refused, are rare.
     fn line(&mut self) -> &'static str {
         let kinds = if self.below(12) == 0 { 24 } else { 20 };
         LINES[self.below(kinds)]
