@@ -1,9 +1,8 @@
 //! Differences judged on a small feeder under temporary items and positions, one after another.
 
-use crate::texts::{full, statements};
+use crate::judging::judged;
+use crate::texts::statements;
 use Want::{Leaves, Refused};
-use cim_profile::first_break;
-use cim_records::Index;
 use cim_words::{Id, Length, Listed, PhaseSet};
 use room_words::{Anchor, DiffRefusal, Overlay, Position, TempItem};
 use statement_set::StatementSet;
