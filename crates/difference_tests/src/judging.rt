@@ -1,6 +1,6 @@
 //! Differences judged on models.
 
-ghost use Rattle.std.specs.Prelude.{IfOk, IsTrue};
+ghost use Rattle.std.specs.Prelude.{IfOk};
 ghost use Rattle.cim_model.specs.Profile.{IsFaultless};
 ghost use Rattle.cim_model.specs.Stands.{Stands};
 
@@ -16,16 +16,19 @@ use std::alloc::Global;
 use std::test::Fail;
 use temporary::overlay_stands;
 
-/// Whether a model breaks no rule and an overlay stands on it.
-fn can_be(alloc: Global, set: &StatementSet, overlay: &Overlay) -> Result<bool, NoMemory>
-    ensures faultless { IfOk result (λ is. IsTrue is → IsFaultless set.now) }
-    ensures stands { IfOk result (λ is. IsTrue is → Stands set.now overlay.now) }
+/// Sees that a model breaks no rule and that an overlay stands on it.
+fn look_at(alloc: Global, set: &StatementSet, overlay: &Overlay) -> Result<(), Fail>
+    ensures faultless { IfOk result (λ _. IsFaultless set.now) }
+    ensures stands { IfOk result (λ _. Stands set.now overlay.now) }
 {
-    if let Some(_found) = first_break(alloc, set)? {
-        return Ok(false);
+    if let Some(found) = first_break(alloc, set)? {
+        return Err(Fail::new(found.rule));
     }
     let index = Index::build(alloc, set)?;
-    Ok(overlay_stands(&index, overlay))
+    if !overlay_stands(&index, overlay) {
+        return Err(Fail::new("the overlay does not stand"));
+    }
+    Ok(())
 }
 
 /// The model that a difference in short leaves, or why it is refused.
@@ -35,9 +38,7 @@ pub(crate) fn judged(
     overlay: &Overlay,
     short: &str,
 ) -> Result<Result<StatementSet, DiffRefusal>, Fail> {
-    if !can_be(alloc, set, overlay)? {
-        return Err(Fail::new("the model or the overlay cannot be"));
-    }
+    look_at(alloc, set, overlay)?;
     let difference = read(alloc, full(alloc, short)?.as_bytes())?;
     match judge_difference(alloc, set, overlay, &difference) {
         Ok(model) => Ok(Ok(model)),
