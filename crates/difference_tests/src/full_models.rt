@@ -38,8 +38,8 @@ fn almost_full(alloc: Global) -> Result<Statements, NoMemory> {
     let first = 0x0000_0000_0000_4000_8000_0000_0000_0100_u128;
     let mut statements = Vec::new(alloc);
     push(&mut statements, Id::of(first - 0xFF))?;
-    for number in 1..999_999 {
-        push(&mut statements, Id::of(first + number))?;
+    for number in 1..999_999_u64 {
+        push(&mut statements, Id::of(first + u128::from(number)))?;
     }
     Ok(Statements::of(statements))
 }
