@@ -1,17 +1,13 @@
 //! Differences judged on a small feeder under temporary items and positions, one after another.
 
-use crate::texts::{full, statements};
+use crate::judging::judged;
+use crate::texts::statements;
 use Want::{Leaves, Refused};
-use cim_profile::first_break;
-use cim_records::Index;
 use cim_words::{Id, Length, Listed, PhaseSet};
-use cutover::{DiffDenied, judge_difference};
-use difference::read;
 use room_words::{Anchor, DiffRefusal, Overlay, Position, TempItem};
 use statement_set::StatementSet;
 use std::alloc::Global;
 use std::test::Fail;
-use temporary::overlay_stands;
 
 /// The nodes a1, a2 and a3, the source e1, the breaker b1, the segment 51 of 100 m and the consumer c1, one behind another: 29 statements.
 const FEEDER: &str = r#"~a1> a <:ConnectivityNode> .
@@ -358,28 +354,6 @@ const CASES: [Case; 12] = [
     ),
     (&[], &[], &[(CONSUMER_LEAVES, Leaves(23))]),
 ];
-
-/// The model that a difference leaves, or why it is refused.
-fn judged(
-    alloc: Global,
-    set: &StatementSet,
-    overlay: &Overlay,
-    short: &str,
-) -> Result<Result<StatementSet, DiffRefusal>, Fail> {
-    if first_break(alloc, set)?.is_some() {
-        return Err(Fail::new("the model has a fault"));
-    }
-    let index = Index::build(alloc, set)?;
-    if !overlay_stands(&index, overlay) {
-        return Err(Fail::new("the overlay does not stand"));
-    }
-    let difference = read(alloc, full(alloc, short)?.as_bytes())?;
-    match judge_difference(alloc, set, overlay, &difference) {
-        Ok(model) => Ok(Ok(model)),
-        Err(DiffDenied::Refusal(why)) => Ok(Err(why)),
-        Err(DiffDenied::NoMemory) => Err(Fail::new("no memory")),
-    }
-}
 
 /// How many steps of a case go as expected, until one does not.
 fn followed(alloc: Global, case: Case) -> Result<usize, Fail> {

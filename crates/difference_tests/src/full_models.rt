@@ -1,18 +1,14 @@
 //! Differences on a model of almost as many statements as there may be.
 
-use crate::texts::full;
-use cim_model::the_empty_overlay_stands;
-use cim_profile::first_break;
+use crate::judging::judged;
 use cim_words::{Id, KnownProp, NoMemory, Object, Prop, Statement, Statements};
-use cutover::{DiffDenied, judge_difference};
-use difference::read;
 use room_words::{DiffRefusal, Overlay};
 use statement_set::StatementSet;
 use std::alloc::Global;
 use std::test::Fail;
 
 /// Documents, and how many statements there are then: those that are too many are not in the model.
-const DOCUMENTS: [(&str, usize); 6] = [
+const DOCUMENTS: [(&str, u64); 6] = [
     ("%forward\n~f1> <p> \"v\" .\n%end", 1_000_000),
     (
         "%forward\n~f1> <p> \"v\" .\n~f1> <p> \"v\" .\n%end",
@@ -42,8 +38,8 @@ fn almost_full(alloc: Global) -> Result<Statements, NoMemory> {
     let first = 0x0000_0000_0000_4000_8000_0000_0000_0100_u128;
     let mut statements = Vec::new(alloc);
     push(&mut statements, Id::of(first - 0xFF))?;
-    for number in 1..999_999 {
-        push(&mut statements, Id::of(first + number))?;
+    for number in 1..999_999_u64 {
+        push(&mut statements, Id::of(first + u128::from(number)))?;
     }
     Ok(Statements::of(statements))
 }
@@ -58,17 +54,11 @@ fn push(statements: &mut Vec<Statement>, id: Id) -> Result<(), NoMemory> {
 }
 
 /// How many statements the model that a difference leaves has, or would have.
-fn count_after(alloc: Global, set: &StatementSet, short: &str) -> Result<usize, Fail> {
-    if first_break(alloc, set)?.is_some() {
-        return Err(Fail::new("the model has a fault"));
-    }
-    the_empty_overlay_stands();
-    let overlay = Overlay::empty(alloc);
-    let difference = read(alloc, full(alloc, short)?.as_bytes())?;
-    match judge_difference(alloc, set, &overlay, &difference) {
-        Ok(model) => Ok(model.len()),
-        Err(DiffDenied::Refusal(DiffRefusal::TooMany(count))) => Ok(usize::try_from(count)?),
-        Err(denied) => Err(Fail::new(denied)),
+fn count_after(alloc: Global, set: &StatementSet, short: &str) -> Result<u64, Fail> {
+    match judged(alloc, set, &Overlay::empty(alloc), short)? {
+        Ok(model) => Ok(model.len() as u64),
+        Err(DiffRefusal::TooMany(count)) => Ok(count),
+        Err(_) => Err(Fail::new("another refusal")),
     }
 }
 

@@ -9,6 +9,8 @@ mod documents;
 #[cfg(test)]
 mod full_models;
 #[cfg(test)]
+mod judging;
+#[cfg(test)]
 mod limits;
 #[cfg(test)]
 mod plain_reader;

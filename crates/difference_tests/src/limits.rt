@@ -136,11 +136,21 @@ const LINES: [(&str, &str, usize, &str, Says); 8] = [
     ),
 ];
 
+fn filled(
+    alloc: Global,
+    begin: &str,
+    piece: &str,
+    count: usize,
+    end: &str,
+) -> Result<String, NoMemory> {
+    let pieces = piece.repeat(alloc, count)?;
+    [begin, pieces.as_str(), end].concat(alloc)
+}
+
 #[test]
 fn counts_bytes_of_lines(rt: HostRuntime) -> Result<(), Fail> {
     for (begin, piece, count, end, want) in LINES {
-        let pieces = piece.repeat(rt.alloc(), count)?;
-        let document = [begin, pieces.as_str(), end].concat(rt.alloc())?;
+        let document = filled(rt.alloc(), begin, piece, count, end)?;
         assert_eq!(rt;
             said(rt.alloc(), document.as_bytes())?,
             want,

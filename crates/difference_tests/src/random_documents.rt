@@ -88,7 +88,7 @@ impl Random {
         (self.state >> 33) as usize % bound
     }
 
-    /// The next heading, or rarely another one, and then a few lines.
+    /// The next heading, or rarely another one, and then a few lines: fewer behind the last heading.
     fn part(&mut self, alloc: Global, next: usize) -> Result<String, NoMemory> {
         let heading = if self.below(16) == 0 {
             HEADINGS[self.below(8)]
@@ -104,7 +104,7 @@ impl Random {
         Ok(text)
     }
 
-    /// A line: one of the last four, which are refused, is rare; behind the last heading triples are rare too.
+    /// A line. The last four, which are refused, are rare.
     fn line(&mut self) -> &'static str {
         let kinds = if self.below(12) == 0 { 24 } else { 20 };
         LINES[self.below(kinds)]
@@ -161,34 +161,40 @@ fn is_written(alloc: Global, difference: &Difference, plain: &Plain) -> Result<b
     )
 }
 
-/// How many of the words came: a bit for each but those of limits, and one for a difference.
-fn bit_of(fault: Option<StageFault>) -> u16 {
-    match fault.map(|fault| fault.word) {
-        None => 1,
-        Some(StageWord::Utf8) => 2,
-        Some(StageWord::Blank) => 4,
-        Some(StageWord::Syntax) => 8,
-        Some(StageWord::Subject) => 16,
-        Some(StageWord::Heading) => 32,
-        Some(StageWord::NoEnd) => 64,
-        Some(_) => 0,
+/// Whether a document that is read as a difference is read so by the plain program.
+fn is_same(
+    alloc: Global,
+    difference: &Difference,
+    want: &Result<Plain, StageFault>,
+) -> Result<bool, DiffFault> {
+    match want {
+        Ok(plain) => Ok(is_said(difference, plain) && is_written(alloc, difference, plain)?),
+        Err(_) => Ok(false),
     }
 }
 
-/// The fault of a document, if both readings tell the same; else a fault that no document has.
-fn fault_of(alloc: Global, document: &[u8]) -> Result<Option<StageFault>, DiffFault> {
-    let other = StageFault {
-        line: 0,
-        word: StageWord::Wide,
-    };
-    match (read(alloc, document), read_plainly(alloc, document)?) {
-        (Ok(difference), Ok(plain)) => {
-            let is_same = is_said(&difference, &plain) && is_written(alloc, &difference, &plain)?;
-            Ok(if is_same { None } else { Some(other) })
-        }
-        (Err(DiffFault::Stage(fault)), Err(want)) if fault == want => Ok(Some(fault)),
-        (Err(DiffFault::NoMemory), _) => Err(DiffFault::NoMemory),
-        _ => Ok(Some(other)),
+/// A bit for each word but those of limits.
+fn bit_of(word: StageWord) -> u16 {
+    match word {
+        StageWord::Utf8 => 2,
+        StageWord::Blank => 4,
+        StageWord::Syntax => 8,
+        StageWord::Subject => 16,
+        StageWord::Heading => 32,
+        StageWord::NoEnd => 64,
+        _ => 0,
+    }
+}
+
+/// What came of a document, 1 for a difference and another bit for a fault, if both readings tell the same.
+fn bit_told(alloc: Global, document: &[u8]) -> Result<Option<u16>, DiffFault> {
+    let want = read_plainly(alloc, document)?;
+    match read(alloc, document) {
+        Ok(difference) => Ok(is_same(alloc, &difference, &want)?.then_some(1)),
+        Err(DiffFault::Stage(fault)) => Ok(
+            (want.err() == Some(fault)).then_some(bit_of(fault.word)),
+        ),
+        Err(DiffFault::NoMemory) => Err(DiffFault::NoMemory),
     }
 }
 
@@ -205,13 +211,10 @@ fn reads_as_the_plain_program(rt: HostRuntime) -> Result<(), Fail> {
         } else {
             Vec::from_slice(alloc, whole.as_bytes())?
         };
-        let fault = fault_of(alloc, &document)?;
-        assert!(rt;
-            fault.map(|fault| fault.word) != Some(StageWord::Wide),
-            "document {number}"
-        );
-        came |= bit_of(fault);
-        read = read.saturating_add(u32::from(fault.is_none()));
+        let bit = bit_told(alloc, &document)?.unwrap_or(0);
+        assert!(rt; bit > 0, "document {number}");
+        came |= bit;
+        read = read.saturating_add(u32::from(bit == 1));
     }
     assert!(rt; came == 127, "{came}");
     assert!(rt; read > 400, "{read} were read");
