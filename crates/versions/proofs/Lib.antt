@@ -1,4 +1,0 @@
-mod OneJudgement
-mod OneNetwork
-mod Sound
-pub mod Agreeing
