@@ -7,14 +7,15 @@ use Rattle.cim_model.specs.Profile.{IsFaultless}
 use Rattle.cim_model.specs.Stands.{Stands}
 use Rattle.cim_words.specs.declared.statement.Statement.{Statement}
 use Rattle.desk.specs.Legal.{IsNext}
-use Rattle.desk.proofs.Legal.{legal_grows}
+use Rattle.desk.proofs.Legal.{legal_empty, legal_grows}
 use Rattle.graph_pages.specs.Graph.{GraphView}
 use Rattle.link_rules.specs.Map.{IsMap}
 use Rattle.room_words.specs.Overlay.{no_overlay}
 use Rattle.room_words.specs.declared.event.Entry.{Entry}
 use Rattle.room_words.specs.declared.overlay.Overlay.{Overlay}
-use Rattle.versions.specs.Held.{Agrees, now_in}
-use Rattle.versions.specs.History.{Judges, Network, Replays, Takes, entry_bytes, event_bytes, log_bytes, most_entries, most_log_bytes}
+use Rattle.versions.specs.Held.{Agrees, now_in, past_of}
+use Rattle.versions.specs.History.{IsNow, Judges, Network, Replays, Takes, entry_bytes, event_bytes, log_bytes, most_entries, most_log_bytes}
+use Rattle.versions.specs.Past.{Past}
 use Rattle.versions.specs.declared.held.Held.{Held}
 
 -- entries take effect one after the other, and one more after them
@@ -60,3 +61,24 @@ agrees_with held entry index overlay graph agrees next takes faultless stands ma
       few = few_more held.log entry (λ full. next.accepted.0 (inl full));
       short = not_above most_log_bytes (held.bytes + event_bytes entry.event) (λ full. next.accepted.0 (inr (subst (λ (n : ℕ). most_log_bytes < n + event_bytes entry.event) agrees.bytes full)));
     }
+
+-- a version of an untouched base agrees
+pub agrees_first : (base : List Statement) (graph : GraphView) → IsFaultless base → Stands base no_overlay → IsMap base no_overlay graph
+    → Agrees (record { base = base; log = []; bytes = 0; index = base; overlay = no_overlay; graph = graph })
+agrees_first base graph faultless stands map =
+    record {
+      base_faultless = faultless;
+      legal = legal_empty (Judges base);
+      now = refl;
+      faultless = faultless;
+      stands = stands;
+      map = map;
+      bytes = refl;
+      few = omega arith;
+      short = omega arith;
+    }
+
+-- the network of what a version holds is the one that its log makes of its base
+pub now_of : (held inside : Held) (past : Past) → held ≡ inside → past_of inside ≡ past → Agrees inside → IsNow past.base past.log (now_in held)
+now_of held inside past same is agrees =
+    subst (λ (p : Past). IsNow p.base p.log (now_in held)) is (subst (λ (h : Held). IsNow inside.base inside.log (now_in h)) (sym same) agrees.now)
