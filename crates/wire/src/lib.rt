@@ -1,0 +1,14 @@
+//! Requests, replies and entries of a history as text, of this project.
+#![tactic(auto)]
+
+mod entries;
+mod refusal_words;
+mod replies;
+mod request;
+mod request_word;
+mod written_words;
+
+pub use cim_words::NoMemory;
+pub use entries::write_entry;
+pub use replies::write_reply;
+pub use request::Request;

@@ -1,0 +1,58 @@
+//! The first words of requests.
+
+ghost use Rattle.std.specs.Prelude.{◌≡◌};
+ghost use Rattle.wire.specs.Requests.{request_word};
+
+/// The first word of a request.
+#[derive(Clone, Copy, Debug, PartialEq, Eq)]
+pub(crate) enum RequestWord {
+    /// A switch is opened.
+    Open,
+    /// A switch is closed.
+    Close,
+    /// A position in force is taken away.
+    Release,
+    /// An item is taken away.
+    Remove,
+    /// A segment is cut.
+    Cut,
+    /// A clamp is put on a segment.
+    Clamp,
+    /// A jumper is fitted.
+    Jumper,
+    /// A place is grounded.
+    Ground,
+    /// What is reached is asked for.
+    Trace,
+    /// The console looks at the history.
+    Look,
+    /// A difference follows.
+    Stage,
+    /// The staged difference changes the model.
+    Cutover,
+    /// The session ends.
+    Bye,
+}
+
+impl RequestWord {
+    /// The word itself.
+    pub(crate) fn word(self) -> &'static str
+        ensures { result.now ≡ request_word self }
+    {
+        match self {
+            RequestWord::Open => "open",
+            RequestWord::Close => "close",
+            RequestWord::Release => "release",
+            RequestWord::Remove => "remove",
+            RequestWord::Cut => "cut",
+            RequestWord::Clamp => "clamp",
+            RequestWord::Jumper => "jumper",
+            RequestWord::Ground => "ground",
+            RequestWord::Trace => "trace",
+            RequestWord::Look => "look",
+            RequestWord::Stage => "stage",
+            RequestWord::Cutover => "cutover",
+            RequestWord::Bye => "bye",
+        }
+    }
+}
