@@ -15,8 +15,11 @@ event_text (event.Act a) = act_text a ++ line_feed ∷ []
 event_text (event.Cutover d) = request_word word.Cutover ++ line_feed ∷ written_difference d
 
 -- an entry: its number in the history, `c` and its console, its serial, and its event
+abbrev pub place_text : ℕ → Entry → List ℕ
+place_text number entry = decimal number ++ codes " c" ++ decimal entry.console ++ codes " " ++ decimal entry.serial ++ codes " "
+
 abbrev pub entry_text : ℕ → Entry → List ℕ
-entry_text number entry = decimal number ++ codes " c" ++ decimal entry.console ++ codes " " ++ decimal entry.serial ++ codes " " ++ event_text entry.event
+entry_text number entry = place_text number entry ++ event_text entry.event
 
 -- entries, of which the first has this number
 abbrev pub entries_text : ℕ → List Entry → List ℕ

@@ -1,8 +1,8 @@
 //! Entries of a history, written.
 
-ghost use Rattle.std.specs.Prelude.{◌≡◌, ◌++◌, ◌∷◌, [], map, length, take, OnOk, OnErr};
+ghost use Rattle.std.specs.Prelude.{◌≡◌, ◌++◌, ◌∷◌, [], map, length, take, codes, OnOk, OnErr};
 ghost use Rattle.std.specs.Fmt.{decimal};
-ghost use Rattle.wire.specs.Entries.{entry_text, event_text};
+ghost use Rattle.wire.specs.Entries.{entry_text, event_text, place_text};
 ghost use Rattle.wire.specs.Requests.{act_text, request_word};
 ghost use Rattle.wire.specs.Values.{anchor_text, value_text, named, long, anchored, phased};
 ghost use Rattle.wire.specs.Words.{space, spaced, words_text};
@@ -31,13 +31,31 @@ fn write_parts(number: u32, entry: &Entry, into: &mut Vec<u8>) -> Result<(), NoM
     ensures ok { OnOk result (into.new.items ≡ into.old.items ++ entry_text number entry.now) }
     ensures err { OnErr result (take (length into.old.items) into.new.items ≡ into.old.items) }
 {
+    write_place(number, entry, into)?;
+    write_event(&entry.event, into)
+}
+
+/// Appends the number of an entry, its console and its serial, each with a space after it, or a part of that.
+fn write_place(number: u32, entry: &Entry, into: &mut Vec<u8>) -> Result<(), NoMemory>
+    ensures ok { OnOk result (into.new.items ≡ into.old.items ++ place_text number entry.now) }
+    ensures err { OnErr result (take (length into.old.items) into.new.items ≡ into.old.items) }
+{
+    write_head(number, entry.console, into)?;
+    write_number(u64::from(entry.serial), into)?;
+    into.push(b' ')?;
+    Ok(())
+}
+
+/// Appends the number of an entry, a space, `c` and a console, or a part of that.
+fn write_head(number: u32, console: u8, into: &mut Vec<u8>) -> Result<(), NoMemory>
+    ensures ok { OnOk result (into.new.items ≡ into.old.items ++ (decimal number ++ codes " c" ++ decimal console)) }
+    ensures err { OnErr result (take (length into.old.items) into.new.items ≡ into.old.items) }
+{
     let alloc = *into.allocator();
     into.extend_from_slice(number.to_string(alloc)?.as_bytes())?;
     into.extend_from_slice(b" c")?;
-    into.extend_from_slice(entry.console.to_string(alloc)?.as_bytes())?;
-    write_number(u64::from(entry.serial), into)?;
-    into.push(b' ')?;
-    write_event(&entry.event, into)
+    into.extend_from_slice(console.to_string(alloc)?.as_bytes())?;
+    Ok(())
 }
 
 /// Appends the text of an event, or a part of it.
