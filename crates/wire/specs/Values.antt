@@ -40,7 +40,7 @@ abbrev pub most_entries : ℕ
 most_entries = 1048576
 
 -- A word spells an identifier where it is its plain text, in either case; a number where it is its decimal text, without leading zeros; a
--- node where it is `n:` and an identifier; a side where it is `s:`, an identifier, `:` and `1` or `2`; and phases where it is their text.
+-- node where it is `n:` and an identifier; a side where it is `s:`, an identifier, and `:1` or `:2`; and phases where it is their text.
 abbrev pub SpellsId : Id → List ℕ → Type 0
 SpellsId id word = plain_number word ≡ Some id.number
 
@@ -50,7 +50,8 @@ SpellsNumber most number word = (word ≡ decimal number) × (number ≤ most)
 abbrev pub SpellsAnchor : Anchor → List ℕ → Type 0
 SpellsAnchor (anchor.Node id) word = (text : List ℕ) × (word ≡ codes "n:" ++ text) × SpellsId id text
 SpellsAnchor (anchor.Side id side) word =
-    (text : List ℕ) × (word ≡ codes "s:" ++ text ++ codes ":" ++ decimal side) × SpellsId id text × ((side ≡ 1) ⊎ (side ≡ 2))
+    (text : List ℕ) × SpellsId id text
+    × (((side ≡ 1) × (word ≡ codes "s:" ++ text ++ codes ":1")) ⊎ ((side ≡ 2) × (word ≡ codes "s:" ++ text ++ codes ":2")))
 
 abbrev pub Spells : Value → List ℕ → Type 0
 Spells (named id) word = SpellsId id word

@@ -2,13 +2,17 @@
 #![tactic(auto)]
 
 mod entries;
+mod fields;
 mod refusal_words;
 mod replies;
 mod request;
 mod request_word;
+mod requests;
+mod words;
 mod written_words;
 
 pub use cim_words::NoMemory;
 pub use entries::write_entry;
 pub use replies::write_reply;
 pub use request::Request;
+pub use requests::read_request;

@@ -1,6 +1,6 @@
 //! The first words of requests.
 
-ghost use Rattle.std.specs.Prelude.{◌≡◌};
+ghost use Rattle.std.specs.Prelude.{◌≡◌, IfSome, IfNone};
 ghost use Rattle.wire.specs.Requests.{request_word};
 
 /// The first word of a request.
@@ -34,7 +34,35 @@ pub(crate) enum RequestWord {
     Bye,
 }
 
+/// Every first word.
+const WORDS: [RequestWord; 13] = [
+    RequestWord::Open,
+    RequestWord::Close,
+    RequestWord::Release,
+    RequestWord::Remove,
+    RequestWord::Cut,
+    RequestWord::Clamp,
+    RequestWord::Jumper,
+    RequestWord::Ground,
+    RequestWord::Trace,
+    RequestWord::Look,
+    RequestWord::Stage,
+    RequestWord::Cutover,
+    RequestWord::Bye,
+];
+
 impl RequestWord {
+    /// The first word that these bytes are.
+    pub(crate) fn of(word: &[u8]) -> Option<RequestWord>
+        ensures found { IfSome result (λ w. word.now ≡ request_word w) }
+        ensures none { IfNone result ((w : RequestWord) → word.now ≡ request_word w → ⊥) }
+    {
+        WORDS
+            .iter()
+            .copied()
+            .find(|known| known.word().as_bytes() == word)
+    }
+
     /// The word itself.
     pub(crate) fn word(self) -> &'static str
         ensures { result.now ≡ request_word self }
