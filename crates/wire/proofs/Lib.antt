@@ -1,0 +1,5 @@
+pub mod Numbers
+pub mod Said
+pub mod Splits
+pub mod Tables
+pub mod Utf8

@@ -1,7 +1,8 @@
 //! The fields of requests, read from single words.
 
-ghost use Rattle.std.specs.Prelude.{◌≡◌, ◌<◌, ◌^◌, ◌++◌, ℕ, List, Some, None, IfOk, IfErr, OnOk, IfSome, IfNone, IsSomeAnd, MatchOption};
+ghost use Rattle.std.specs.Prelude.{◌≡◌, ◌<◌, ◌^◌, ◌++◌, ℕ, List, false, IfOk, IfErr, OnOk, IfSome, IfNone, IsSomeAnd, MatchOption};
 ghost use Rattle.std.specs.Fmt.{decimal};
+ghost use Rattle.std.specs.Str.{IsUtf8};
 ghost use Rattle.cim_words.specs.IdText.{plain_number};
 ghost use Rattle.cim_words.specs.Phases.{phase_text};
 ghost use Rattle.cim_words.specs.declared.phases.PhaseSet.{PhaseSet};
@@ -77,21 +78,37 @@ pub(crate) fn anchor_at(place: u8, word: &[u8]) -> Result<Anchor, Fault>
     }
 }
 
+/// A word as text, where it is UTF-8.
+fn text_of(word: &[u8]) -> Option<&str>
+    ensures { MatchOption result (IsUtf8 word.now → ⊥) (λ text. text.now ≡ word.now) }
+{
+    match str::from_utf8(word) {
+        Ok(text) => Some(text),
+        Err(_) => None,
+    }
+}
+
 /// The identifier that a word spells.
+#[tactic(auto, using(crate::proofs::Utf8::no_id))]
 fn read_id(word: &[u8]) -> Option<Id>
     ensures { MatchOption result (plain_number word.now ≡ None) (λ id. SpellsId id word.now) }
 {
-    let text = str::from_utf8(word).ok()?;
-    Id::read_plain(text).ok()
+    match text_of(word) {
+        Some(text) => Id::read_plain(text).ok(),
+        None => None,
+    }
 }
 
 /// The phases that a word spells.
+#[tactic(auto, using(crate::proofs::Utf8::no_phases))]
 fn read_phases(word: &[u8]) -> Option<PhaseSet>
     ensures found { IfSome result (λ set. word.now ≡ phase_text set) }
     ensures none { IfNone result ((set : PhaseSet) → word.now ≡ phase_text set → ⊥) }
 {
-    let text = str::from_utf8(word).ok()?;
-    PhaseSet::read_text(text).ok()
+    match text_of(word) {
+        Some(text) => PhaseSet::read_text(text).ok(),
+        None => None,
+    }
 }
 
 /// The number that a word spells in decimal, without leading zeros, up to the greatest one that it may be.
@@ -107,13 +124,28 @@ fn read_number(word: &[u8], most: u64) -> Option<u64>
 }
 
 /// The number that a word without sign and leading zeros spells.
+#[tactic(auto, using(crate::proofs::Utf8::no_number))]
 fn parsed(word: &[u8]) -> Option<u64>
-    requires plain { reading.is_padded word.now ≡ false }
+    requires { reading.is_padded word.now ≡ false }
     ensures found { IfSome result (λ number. word.now ≡ decimal number) }
-    ensures none { IfNone result ((number : ℕ) → number < 2 ^ 64 → word.now ≡ decimal number → ⊥) }
+    ensures only { (number : ℕ) → number < 2 ^ 64 → word.now ≡ decimal number → result ≡ Some number }
 {
-    let text = str::from_utf8(word).ok()?;
-    text.parse::<u64>().ok()
+    match text_of(word) {
+        Some(text) => parsed_text(text),
+        None => None,
+    }
+}
+
+/// The same of a text.
+fn parsed_text(text: &str) -> Option<u64>
+    requires { reading.is_padded text.now ≡ false }
+    ensures found { IfSome result (λ number. text.now ≡ decimal number) }
+    ensures only { (number : ℕ) → number < 2 ^ 64 → text.now ≡ decimal number → result ≡ Some number }
+{
+    match text.parse::<u64>() {
+        Ok(number) => Some(number),
+        Err(_) => None,
+    }
 }
 
 /// Whether a word begins with a plus, or with a zero that is not all of it.

@@ -1,6 +1,7 @@
 //! The first words of requests.
 
-ghost use Rattle.std.specs.Prelude.{◌≡◌, IfSome, IfNone};
+ghost use Rattle.std.specs.Prelude.{◌≡◌, find, IfSome, IfNone};
+ghost use Rattle.std.specs.Str.{bytes_eq};
 ghost use Rattle.wire.specs.Requests.{request_word};
 
 /// The first word of a request.
@@ -57,10 +58,7 @@ impl RequestWord {
         ensures found { IfSome result (λ w. word.now ≡ request_word w) }
         ensures none { IfNone result ((w : RequestWord) → word.now ≡ request_word w → ⊥) }
     {
-        WORDS
-            .iter()
-            .copied()
-            .find(|known| known.word().as_bytes() == word)
+        among(&WORDS, word)
     }
 
     /// The word itself.
@@ -83,4 +81,14 @@ impl RequestWord {
             RequestWord::Bye => "bye",
         }
     }
+}
+
+/// The first of some words that these bytes are.
+fn among(words: &[RequestWord], word: &[u8]) -> Option<RequestWord>
+    ensures { result ≡ find (λ w. bytes_eq (request_word w) word.now) words.now }
+{
+    words
+        .iter()
+        .copied()
+        .find(|known| known.word().as_bytes() == word)
 }

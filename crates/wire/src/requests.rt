@@ -3,12 +3,12 @@
 ghost use Rattle.std.specs.Prelude.{◌≡◌, ◌∷◌, [], IfOk, IfErr};
 ghost use Rattle.wire.specs.Reading.{FaultIn, IsSaidBy, fields_of};
 ghost use Rattle.wire.specs.Requests.{IsFieldFault, IsRequest, IsRequestFault, IsSaid, fields_after};
-ghost use Rattle.wire.specs.Values.{AreSpelled, a_length, a_phase_set, an_anchor, an_id, long, named, phased};
+ghost use Rattle.wire.specs.Values.{AreSpelled, a_length, a_phase_set, a_prefix, an_anchor, an_id, long, named, phased, seen};
 
 use crate::fields::{anchor_at, id_at, length_at, phases_at, prefix_at};
 use crate::request::Request;
 use crate::request_word::RequestWord;
-use crate::words::{four_fields, no_field, one_field, split_word, three_fields, two_fields};
+use crate::words::{four_fields, has_no_field, no_field, one_field, split_word, three_fields, two_fields};
 use cim_words::{Id, Length, PhaseSet};
 use room_words::{Act, Fault};
 
@@ -40,12 +40,22 @@ fn read_look(fields: &[u8], scripted: bool) -> Result<Request, Fault>
     ensures ok { IfOk result (IsSaid scripted RequestWord.Look (fields_of fields.now)) }
     ensures fault { IfErr result (IsFieldFault scripted RequestWord.Look (fields_of fields.now)) }
 {
-    if !scripted || no_field(fields).is_ok() {
+    if !scripted || has_no_field(fields) {
         return read_fields(RequestWord::Look, fields);
     }
+    match read_prefix(fields) {
+        Ok(count) => Ok(Request::Look(Some(count))),
+        Err(fault) => Err(fault),
+    }
+}
+
+/// How many entries the prefix has that a look names.
+fn read_prefix(fields: &[u8]) -> Result<u32, Fault>
+    ensures ok { IfOk result (λ count. AreSpelled (seen count ∷ []) (fields_of fields.now)) }
+    ensures fault { IfErr result (FaultIn (a_prefix ∷ []) (fields_of fields.now)) }
+{
     let word = one_field(fields)?;
-    let count = prefix_at(1, word)?;
-    Ok(Request::Look(Some(count)))
+    prefix_at(1, word)
 }
 
 /// The request of a word and what follows it, by the table.

@@ -1,6 +1,6 @@
 //! The words of a line: what stands between single spaces.
 
-ghost use Rattle.std.specs.Prelude.{◌≡◌, ◌∷◌, [], length, IfOk, IfErr, MatchOption};
+ghost use Rattle.std.specs.Prelude.{◌≡◌, ◌==◌, ◌∷◌, [], length, IfOk, IfErr, MatchOption};
 ghost use Rattle.std.specs.List.{position_or_len};
 ghost use Rattle.wire.specs.Reading.{fields_of};
 ghost use Rattle.wire.specs.Words.{is_space, words_of};
@@ -18,9 +18,7 @@ pub(crate) fn split_word(line: &[u8]) -> (&[u8], &[u8])
 fn word_length(line: &[u8]) -> usize
     ensures { result ≡ position_or_len is_space line.now }
 {
-    line.iter()
-        .position(|byte| *byte == b' ')
-        .unwrap_or(line.len())
+    line.iter().take_while(|byte| **byte != b' ').count()
 }
 
 /// The first of the words in what follows a word, and what follows it.
@@ -31,6 +29,13 @@ fn split_field(fields: &[u8]) -> Option<(&[u8], &[u8])>
         [] => None,
         [_, words @ ..] => Some(split_word(words)),
     }
+}
+
+/// Whether there are no words in what follows a word.
+pub(crate) fn has_no_field(fields: &[u8]) -> bool
+    ensures { result ≡ (length (fields_of fields.now) == 0) }
+{
+    split_field(fields).is_none()
 }
 
 /// Refuses words where there should be none.
