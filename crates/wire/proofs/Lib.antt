@@ -1,4 +1,6 @@
 pub mod Numbers
+pub mod OneRequest
+pub mod OneValue
 pub mod Said
 pub mod Splits
 pub mod Tables

@@ -3,6 +3,7 @@
 
 mod entries;
 mod fields;
+mod laws;
 mod refusal_words;
 mod replies;
 mod request;
@@ -13,6 +14,7 @@ mod written_words;
 
 pub use cim_words::NoMemory;
 pub use entries::write_entry;
+pub use laws::requests_have_one_reading;
 pub use replies::write_reply;
 pub use request::Request;
 pub use requests::read_request;
