@@ -8,7 +8,9 @@ ghost use Rattle.wire.specs.Values.{AreSpelled, a_length, a_phase_set, a_prefix,
 use crate::fields::{anchor_at, id_at, length_at, phases_at, prefix_at};
 use crate::request::Request;
 use crate::request_word::RequestWord;
-use crate::words::{four_fields, has_no_field, no_field, one_field, split_word, three_fields, two_fields};
+use crate::words::{
+    four_fields, has_no_field, no_field, one_field, split_word, three_fields, two_fields,
+};
 use cim_words::{Id, Length, PhaseSet};
 use room_words::{Act, Fault};
 
@@ -70,11 +72,19 @@ fn read_fields(word: RequestWord, fields: &[u8]) -> Result<Request, Fault>
         RequestWord::Remove => Ok(Request::Act(Act::Remove(read_id(fields)?))),
         RequestWord::Cut => {
             let (new_id, segment, length) = read_mark(fields)?;
-            Ok(Request::Act(Act::Cut { new_id, segment, length }))
+            Ok(Request::Act(Act::Cut {
+                new_id,
+                segment,
+                length,
+            }))
         }
         RequestWord::Clamp => {
             let (new_id, segment, length) = read_mark(fields)?;
-            Ok(Request::Act(Act::Clamp { new_id, segment, length }))
+            Ok(Request::Act(Act::Clamp {
+                new_id,
+                segment,
+                length,
+            }))
         }
         RequestWord::Jumper => Ok(Request::Act(read_jumper(fields)?)),
         RequestWord::Ground => Ok(Request::Act(read_ground(fields)?)),
