@@ -1,3 +1,4 @@
+pub mod Back
 pub mod Numbers
 pub mod OneRequest
 pub mod OneValue

@@ -51,7 +51,7 @@ last_behind (c ∷ d ∷ a) x y = last_behind (d ∷ a) x y
 
 other_end : (a b : List ℕ) → a ++ codes ":1" ≡ b ++ codes ":2" → ⊥
 other_end a b same =
-    let ends : 49 ≡ 50 = sym (last_behind a 58 49) ∙ ap last_of same ∙ last_behind b 58 50 in
+    let ends : ◌≡◌ {A = ℕ} 49 50 = sym (last_behind a 58 49) ∙ ap last_of same ∙ last_behind b 58 50 in
     let differ : true ≡ false = ap (λ (m : ℕ). m == 49) ends in
     absurd cc
 

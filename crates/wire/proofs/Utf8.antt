@@ -19,20 +19,24 @@ use Rattle.uuid.proofs.TextLemmas.{by_index_at}
 
 -- ---- identifiers
 
-hex_small : (digit : ℕ) → is_hex_digit digit ≡ true → digit < 128
-hex_small digit hex = grind (arith, nat_tests)
+-- the bytes of an identifier are above the space and below 128
+abbrev pub IsPlain : ℕ → Type 0
+IsPlain byte = (44 < byte) × (byte < 128)
+
+hex_plain : (digit : ℕ) → is_hex_digit digit ≡ true → IsPlain digit
+hex_plain digit hex = (grind (arith, nat_tests), grind (arith, nat_tests))
 
 taken : {X : Type 0} (test : Bool) (value : Option X) (f : X → ℕ) (n : ℕ) → option_map f (if test then value else None) ≡ Some n
     → (test ≡ true) × (option_map f value ≡ Some n)
 taken true value f n some = (refl, some)
 taken false value f n some = cc
 
-digits_small : (hex : List ℕ) (n : ℕ) → option_map (from_be_bytes w128) (parsed_simple hex) ≡ Some n → (k : ℕ) → k < 32 → get_or hex k 0 < 128
-digits_small hex n some k within =
+digits_plain : (hex : List ℕ) (n : ℕ) → option_map (from_be_bytes w128) (parsed_simple hex) ≡ Some n → (k : ℕ) → k < 32 → IsPlain (get_or hex k 0)
+digits_plain hex n some k within =
     let read = taken ((length hex == 32) && list_all is_hex_digit hex) (Some (by_index 16 (byte_of_digits hex))) (from_be_bytes w128) n some in
     let tests = and_parts (length hex == 32) (list_all is_hex_digit hex) read.0 in
     let long : length hex ≡ 32 = grind (arith, nat_tests, tests.0) in
-    hex_small (get_or hex k 0) (AllPass-from_list_all is_hex_digit hex tests.1 k 0 (omega arith))
+    hex_plain (get_or hex k 0) (AllPass-from_list_all is_hex_digit hex tests.1 k 0 (omega arith))
 
 hyphens_small : (text : List ℕ) → has_hyphens text ≡ true
     → (slice_index text 8 ≡ 45) × (slice_index text 13 ≡ 45) × (slice_index text 18 ≡ 45) × (slice_index text 23 ≡ 45)
@@ -67,21 +71,27 @@ place_of i within =
       ]
     ]
 
-pub id_ascii : (text : List ℕ) (n : ℕ) → plain_number text ≡ Some n → IsAscii text
+pub id_plain : (text : List ℕ) (n : ℕ) → plain_number text ≡ Some n → (length text ≡ 36) × ((i : ℕ) → i < 36 → IsPlain (get_or text i 0))
 unfolding plain_number
-id_ascii text n some =
+id_plain text n some =
     let read = taken ((length text == 36) && has_hyphens text) (parsed_simple (digits_of text)) (from_be_bytes w128) n some in
     let tests = and_parts (length text == 36) (has_hyphens text) read.0 in
     let long : length text ≡ 36 = grind (arith, nat_tests, tests.0) in
     let hyphens = hyphens_small text tests.1 in
-    let digit = λ (j : ℕ) (within : j < 32). subst (λ (c : ℕ). c < 128) (by_index_at 32 (λ i. slice_index text (hyphen_place i)) j 0 within) (digits_small (digits_of text) n read.1 j within) in
-    IsAscii-from_reads text 36 (omega arith) (λ i within. elim (place_of i within) [
-      | inl (j, near, is) ↦ subst (λ (k : ℕ). get_or text k 0 < 128) is (digit j near)
-      | inr (inl is) ↦ subst (λ (k : ℕ). get_or text k 0 < 128) (sym is) (omega (arith, hyphens.0))
-      | inr (inr (inl is)) ↦ subst (λ (k : ℕ). get_or text k 0 < 128) (sym is) (omega (arith, hyphens.1))
-      | inr (inr (inr (inl is))) ↦ subst (λ (k : ℕ). get_or text k 0 < 128) (sym is) (omega (arith, hyphens.2))
-      | inr (inr (inr (inr is))) ↦ subst (λ (k : ℕ). get_or text k 0 < 128) (sym is) (omega (arith, hyphens.3))
+    let digit = λ (j : ℕ) (within : j < 32). subst IsPlain (by_index_at 32 (λ i. slice_index text (hyphen_place i)) j 0 within) (digits_plain (digits_of text) n read.1 j within) in
+    let at = λ (k : ℕ). IsPlain (get_or text k 0) in
+    (long, λ i within. elim (place_of i within) [
+      | inl (j, near, is) ↦ subst at is (digit j near)
+      | inr (inl is) ↦ subst at (sym is) (omega (arith, hyphens.0), omega (arith, hyphens.0))
+      | inr (inr (inl is)) ↦ subst at (sym is) (omega (arith, hyphens.1), omega (arith, hyphens.1))
+      | inr (inr (inr (inl is))) ↦ subst at (sym is) (omega (arith, hyphens.2), omega (arith, hyphens.2))
+      | inr (inr (inr (inr is))) ↦ subst at (sym is) (omega (arith, hyphens.3), omega (arith, hyphens.3))
     ])
+
+pub id_ascii : (text : List ℕ) (n : ℕ) → plain_number text ≡ Some n → IsAscii text
+id_ascii text n some =
+    let plain = id_plain text n some in
+    IsAscii-from_reads text 36 (omega (arith, plain.0)) (λ i within. (plain.1 i within).1)
 
 no_value : (o : Option ℕ) → ((n : ℕ) → o ≡ Some n → ⊥) → o ≡ None
 no_value None none = refl
@@ -107,19 +117,19 @@ secondary_ascii false true = IsAscii-cons 115 (codes "2") (omega arith) (letter_
 secondary_ascii false false = IsAscii-nil
 
 -- what follows each part of a text of phases
-abbrev from_dash : PhaseSet → List ℕ
+abbrev pub from_dash : PhaseSet → List ℕ
 from_dash set = text_if (has_no_phase set) (codes "-") ++ []
 
-abbrev from_n : PhaseSet → List ℕ
+abbrev pub from_n : PhaseSet → List ℕ
 from_n set = text_if set.n (codes "N") ++ from_dash set
 
-abbrev from_s : PhaseSet → List ℕ
+abbrev pub from_s : PhaseSet → List ℕ
 from_s set = secondary_text set.s1 set.s2 ++ from_n set
 
-abbrev from_c : PhaseSet → List ℕ
+abbrev pub from_c : PhaseSet → List ℕ
 from_c set = text_if set.c (codes "C") ++ from_s set
 
-abbrev from_b : PhaseSet → List ℕ
+abbrev pub from_b : PhaseSet → List ℕ
 from_b set = text_if set.b (codes "B") ++ from_c set
 
 pub phase_ascii : (set : PhaseSet) → IsAscii (phase_text set)

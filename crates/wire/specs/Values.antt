@@ -1,5 +1,5 @@
 -- The fields of requests, of this project: their forms, the values that they name, and the words that spell these.
-use Rattle.std.specs.Prelude.{ℕ, ◌+◌, ◌≡◌, ◌≤◌, ◌⊎◌, List, [], ◌∷◌, ◌++◌, Some, codes}
+use Rattle.std.specs.Prelude.{ℕ, ◌+◌, ◌^◌, ◌≡◌, ◌<◌, ◌≤◌, ◌⊎◌, List, [], ◌∷◌, ◌++◌, Some, codes}
 use Rattle.std.specs.Fmt.{decimal}
 use Rattle.cim_words.specs.IdText.{id_text, plain_number}
 use Rattle.cim_words.specs.Phases.{phase_text}
@@ -87,3 +87,16 @@ value_text (long length) = decimal length.mm
 value_text (anchored place) = anchor_text place
 value_text (phased set) = phase_text set
 value_text (seen count) = decimal count
+
+-- A value for which a word is written that spells it: an identifier has 128 bits, a length has 13 digits at most, and a side is 1 or 2.
+abbrev pub IsWritten : Value → Type 0
+IsWritten (named id) = id.number < 2 ^ 128
+IsWritten (long length) = length.mm ≤ most_millimetres
+IsWritten (anchored (anchor.Node id)) = id.number < 2 ^ 128
+IsWritten (anchored (anchor.Side id side)) = (id.number < 2 ^ 128) × ((side ≡ 1) ⊎ (side ≡ 2))
+IsWritten (phased set) = Unit {0}
+IsWritten (seen count) = count ≤ most_entries
+
+abbrev pub AreWritten : List Value → Type 0
+AreWritten [] = Unit {0}
+AreWritten (value ∷ values) = IsWritten value × AreWritten values
