@@ -1,5 +1,5 @@
 -- What is written of an act is read as that act.
-use Rattle.std.proofs.Common.{◌≡◌, ◌<◌, ◌^◌, ◌+◌, ◌⊎◌, ℕ, List, [], ◌∷◌, ◌++◌, map, length, get_or, Bool, true, false, not, Some, inl, inr, arith, refl, sym, ap, ◌∙◌, subst, append_assoc}
+use Rattle.std.proofs.Common.{◌≡◌, ◌<◌, ◌^◌, ℕ, List, [], ◌∷◌, ◌++◌, map, length, get_or, Bool, true, false, not, Some, inl, inr, arith, refl, sym, ap, ◌∙◌, subst, append_assoc}
 use Rattle.std.proofs.lemmas.Bool.Decides.{nat_tests}
 use Rattle.std.proofs.lemmas.Fmt.{decimal_digit, decimal_is_IsNumeral}
 use Rattle.std.proofs.lemmas.List.{append-nil, get_or_default}
@@ -125,13 +125,15 @@ value_back back (long far) written = ((refl, written), decimal_free far.mm (omeg
 value_back back (anchored (anchor.Node id)) written =
     ((id_text id.number, refl, back id.number written), both_free (codes "n:") (id_text id.number) refl (id_free back id.number written))
 value_back back (anchored (anchor.Side id side)) (fits, inl one) =
-    let text = side_text (id_text id.number) side 49 (side_one side one) in
-    ((id_text id.number, back id.number fits, inl (one, text)),
-    subst IsFree (sym text) (both_free (codes "s:" ++ id_text id.number) (codes ":1") (both_free (codes "s:") (id_text id.number) refl (id_free back id.number fits)) refl))
+    let text = side_text (id_text id.number) side 49 (side_one side one) in (
+      (id_text id.number, back id.number fits, inl (one, text)),
+      subst IsFree (sym text) (both_free (codes "s:" ++ id_text id.number) (codes ":1") (both_free (codes "s:") (id_text id.number) refl (id_free back id.number fits)) refl),
+    )
 value_back back (anchored (anchor.Side id side)) (fits, inr two) =
-    let text = side_text (id_text id.number) side 50 (side_two side two) in
-    ((id_text id.number, back id.number fits, inr (two, text)),
-    subst IsFree (sym text) (both_free (codes "s:" ++ id_text id.number) (codes ":2") (both_free (codes "s:") (id_text id.number) refl (id_free back id.number fits)) refl))
+    let text = side_text (id_text id.number) side 50 (side_two side two) in (
+      (id_text id.number, back id.number fits, inr (two, text)),
+      subst IsFree (sym text) (both_free (codes "s:" ++ id_text id.number) (codes ":2") (both_free (codes "s:") (id_text id.number) refl (id_free back id.number fits)) refl),
+    )
 value_back back (phased set) written = (refl, phases_free set)
 value_back back (seen count) written = ((refl, written), decimal_free count (omega arith))
 

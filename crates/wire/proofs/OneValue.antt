@@ -1,19 +1,16 @@
 -- A word spells one value of a form, and words spell one list of values of their forms.
-use Rattle.std.proofs.Common.{◌≡◌, ◌⊎◌, ◌+◌, ◌<◌, ◌≤◌, ◌==◌, ℕ, suc, true, false, List, [], ◌∷◌, ◌++◌, map, length, get_or, Some, inl, inr, arith, refl, sym, ap, ap₂, ◌∙◌, subst}
+use Rattle.std.proofs.Common.{◌≡◌, ◌+◌, ◌≤◌, ◌==◌, ℕ, suc, true, false, List, [], ◌∷◌, ◌++◌, map, length, get_or, inl, inr, arith, refl, sym, ap, ap₂, ◌∙◌, subst}
 use Rattle.std.specs.Prelude.{codes}
-use Rattle.std.specs.Fmt.{decimal}
 use Rattle.std.proofs.lemmas.Fmt.{decimal_injective}
 use Rattle.std.proofs.lemmas.List.{append_cancel_left, append_cancel_right}
 use Rattle.std.proofs.lemmas.Option.{same_Some}
-use Rattle.cim_words.specs.IdText.{plain_number}
-use Rattle.cim_words.specs.Phases.{phase_text}
 use Rattle.cim_words.specs.declared.identifier.Id.{Id}
 use Rattle.cim_words.specs.declared.length.Length.{Length}
 use Rattle.cim_words.specs.declared.phases.PhaseSet.{PhaseSet}
 use Rattle.cim_words.proofs.PhaseTexts.{phase_text-injective}
 use Rattle.room_words.specs.declared.anchor.Anchor.{Anchor}
 use Rattle.room_words.specs.declared.anchor.Anchor.TheVariants as anchor
-use Rattle.wire.specs.Values.{AreSpelled, FirstBad, Form, IsOf, Spells, SpellsAnchor, SpellsId, SpellsNumber, Value, a_length, a_phase_set, a_prefix, an_anchor, an_id, anchored, form_of, long, most_entries, most_millimetres, named, phased, seen}
+use Rattle.wire.specs.Values.{AreSpelled, FirstBad, Form, Spells, SpellsAnchor, SpellsId, SpellsNumber, Value, anchored, form_of, long, most_entries, most_millimetres, named, phased, seen}
 
 -- ---- one word
 

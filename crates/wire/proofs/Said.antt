@@ -1,10 +1,10 @@
 -- What is said by the table is said, and what is wrong by the table is wrong.
-use Rattle.std.proofs.Common.{◌≡◌, ◌⊎◌, ℕ, List, [], ◌∷◌, length, Bool, true, inl, inr, refl, sym, ap, subst, ◌∙◌}
+use Rattle.std.proofs.Common.{◌≡◌, ℕ, List, [], ◌∷◌, length, Bool, true, inl, inr, refl, sym, ap, ◌∙◌}
 use Rattle.room_words.specs.declared.fault.Fault.{Fault}
 use Rattle.room_words.specs.declared.fault.Fault.TheVariants as fault
 use Rattle.wire.specs.Reading.{FaultIn, IsSaidBy}
-use Rattle.wire.specs.Requests.{IsFieldFault, IsSaid, Takes, fields_after}
-use Rattle.wire.specs.Values.{Form, a_prefix}
+use Rattle.wire.specs.Requests.{IsFieldFault, IsSaid, fields_after}
+use Rattle.wire.specs.Values.{a_prefix}
 use Rattle.wire.specs.declared.request.Request.{Request}
 use Rattle.wire.specs.declared.request_word.RequestWord.{RequestWord}
 use Rattle.wire.specs.declared.request_word.RequestWord.TheVariants.{Look}

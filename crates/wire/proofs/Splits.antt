@@ -1,5 +1,5 @@
 -- The words of a line, one after the other, and what stands behind and before a mark.
-use Rattle.std.proofs.Common.{Bor, ◌≡◌, ◌≢◌, ℕ, suc, arith, ◌+◌, List, [], ◌∷◌, ◌++◌, Bool, true, false, not, cond, take, drop, Option, Some, None, IfSome, IsSomeAnd, MatchOption, refl, sym, ap, ◌∙◌}
+use Rattle.std.proofs.Common.{Bor, ◌≡◌, ◌≢◌, ℕ, suc, arith, List, [], ◌∷◌, ◌++◌, Bool, true, false, take, drop, Option, Some, None, IfSome, IsSomeAnd, MatchOption, refl, sym, ap, ◌∙◌}
 use Rattle.std.specs.List.{onto_first, position_or_len, slice_split}
 use Rattle.std.proofs.lemmas.List.{append_cancel_left, append_cancel_right}
 use Rattle.wire.specs.Reading.{fields_of}

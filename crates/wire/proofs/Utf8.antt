@@ -1,5 +1,5 @@
 -- Words that spell a value have ASCII bytes alone.
-use Rattle.std.proofs.Common.{◌≡◌, ◌≤◌, ◌<◌, ◌+◌, ◌-◌, ◌^◌, ◌&&◌, ◌==◌, ◌⊎◌, ℕ, List, [], ◌∷◌, ◌++◌, Option, Some, None, Bool, true, false, if◌then◌else◌, length, get_or, option_map, slice_index, inl, inr, arith, refl, sym, subst}
+use Rattle.std.proofs.Common.{◌≡◌, ◌<◌, ◌-◌, ◌^◌, ◌&&◌, ◌==◌, ◌⊎◌, ℕ, List, [], ◌∷◌, ◌++◌, Option, Some, None, Bool, true, false, if◌then◌else◌, length, get_or, option_map, slice_index, inl, inr, arith, refl, sym, subst}
 use Rattle.std.proofs.lemmas.Bool.{and_parts, cases_lt}
 use Rattle.std.proofs.lemmas.Bool.Decides.{nat_tests}
 use Rattle.std.proofs.lemmas.Fmt.{IsAscii-decimal}
@@ -79,14 +79,16 @@ id_plain text n some =
     let long : length text ≡ 36 = grind (arith, nat_tests, tests.0) in
     let hyphens = hyphens_small text tests.1 in
     let digit = λ (j : ℕ) (within : j < 32). subst IsPlain (by_index_at 32 (λ i. slice_index text (hyphen_place i)) j 0 within) (digits_plain (digits_of text) n read.1 j within) in
-    let at = λ (k : ℕ). IsPlain (get_or text k 0) in
-    (long, λ i within. elim (place_of i within) [
-      | inl (j, near, is) ↦ subst at is (digit j near)
-      | inr (inl is) ↦ subst at (sym is) (omega (arith, hyphens.0), omega (arith, hyphens.0))
-      | inr (inr (inl is)) ↦ subst at (sym is) (omega (arith, hyphens.1), omega (arith, hyphens.1))
-      | inr (inr (inr (inl is))) ↦ subst at (sym is) (omega (arith, hyphens.2), omega (arith, hyphens.2))
-      | inr (inr (inr (inr is))) ↦ subst at (sym is) (omega (arith, hyphens.3), omega (arith, hyphens.3))
-    ])
+    let at = λ (k : ℕ). IsPlain (get_or text k 0) in (
+      long,
+      λ i within. elim (place_of i within) [
+        | inl (j, near, is) ↦ subst at is (digit j near)
+        | inr (inl is) ↦ subst at (sym is) (omega (arith, hyphens.0), omega (arith, hyphens.0))
+        | inr (inr (inl is)) ↦ subst at (sym is) (omega (arith, hyphens.1), omega (arith, hyphens.1))
+        | inr (inr (inr (inl is))) ↦ subst at (sym is) (omega (arith, hyphens.2), omega (arith, hyphens.2))
+        | inr (inr (inr (inr is))) ↦ subst at (sym is) (omega (arith, hyphens.3), omega (arith, hyphens.3))
+      ],
+    )
 
 pub id_ascii : (text : List ℕ) (n : ℕ) → plain_number text ≡ Some n → IsAscii text
 id_ascii text n some =

@@ -1,5 +1,5 @@
 -- What the functions that read a request say of the words after the first.
-use Rattle.std.specs.Prelude.{ℕ, ◌≡◌, List, [], ◌∷◌, ◌++◌, map, length, Bool, ◌==◌, ◌&&◌, ◌||◌, nat_lt, slice_index}
+use Rattle.std.specs.Prelude.{ℕ, ◌≡◌, List, [], ◌∷◌, map, length, Bool, ◌==◌, ◌&&◌, ◌||◌, nat_lt, slice_index}
 use Rattle.room_words.specs.declared.fault.Fault.{Fault}
 use Rattle.room_words.specs.declared.fault.Fault.TheVariants as fault
 use Rattle.wire.specs.Requests.{fields_after, values_of, word_of}

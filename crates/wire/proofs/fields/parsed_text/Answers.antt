@@ -1,4 +1,4 @@
-use Rattle.std.proofs.Common.{◌≡◌, Ok, Some}
+use Rattle.std.proofs.Common.{Ok}
 use Rattle.wire.proofs.Numbers.{parsed_is, parsed_none, parsed_one}
 use Rattle.wire.proofs.fields.parsed_text.Goals as goal
 

@@ -1,4 +1,3 @@
-use Rattle.std.proofs.Common.{◌≡◌}
 use Rattle.std.proofs.lemmas.List.Sums.{prefix_len-le-length}
 use Rattle.wire.proofs.Splits.{first_word}
 use Rattle.wire.proofs.words.split_word.Goals as goal
