@@ -92,10 +92,10 @@ fn read_fields(word: RequestWord, fields: &[u8]) -> Result<Request, Fault>
             let (start, phases) = read_trace(fields)?;
             Ok(Request::Trace { start, phases })
         }
-        RequestWord::Look => Ok(alone(Request::Look(None), fields)?),
-        RequestWord::Stage => Ok(alone(Request::Stage, fields)?),
-        RequestWord::Cutover => Ok(alone(Request::Cutover, fields)?),
-        RequestWord::Bye => Ok(alone(Request::Bye, fields)?),
+        RequestWord::Look => alone(Request::Look(None), fields),
+        RequestWord::Stage => alone(Request::Stage, fields),
+        RequestWord::Cutover => alone(Request::Cutover, fields),
+        RequestWord::Bye => alone(Request::Bye, fields),
     }
 }
 
