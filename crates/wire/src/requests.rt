@@ -1,6 +1,6 @@
 //! Requests, read.
 
-ghost use Rattle.std.specs.Prelude.{◌≡◌, ◌∷◌, [], IfOk, IfErr};
+ghost use Rattle.std.specs.Prelude.{◌≡◌, ◌∷◌, [], IfOk, OnOk, IfErr};
 ghost use Rattle.wire.specs.Reading.{FaultIn, IsSaidBy, fields_of};
 ghost use Rattle.wire.specs.Requests.{IsFieldFault, IsRequest, IsRequestFault, IsSaid, fields_after};
 ghost use Rattle.wire.specs.Values.{AreSpelled, a_length, a_phase_set, a_prefix, an_anchor, an_id, long, named, phased, seen};
@@ -92,23 +92,21 @@ fn read_fields(word: RequestWord, fields: &[u8]) -> Result<Request, Fault>
             let (start, phases) = read_trace(fields)?;
             Ok(Request::Trace { start, phases })
         }
-        RequestWord::Look => {
-            no_field(fields)?;
-            Ok(Request::Look(None))
-        }
-        RequestWord::Stage => {
-            no_field(fields)?;
-            Ok(Request::Stage)
-        }
-        RequestWord::Cutover => {
-            no_field(fields)?;
-            Ok(Request::Cutover)
-        }
-        RequestWord::Bye => {
-            no_field(fields)?;
-            Ok(Request::Bye)
-        }
+        RequestWord::Look => alone(Request::Look(None), fields),
+        RequestWord::Stage => alone(Request::Stage, fields),
+        RequestWord::Cutover => alone(Request::Cutover, fields),
+        RequestWord::Bye => alone(Request::Bye, fields),
     }
+}
+
+/// A request that its word alone is, where nothing follows it.
+fn alone(request: Request, fields: &[u8]) -> Result<Request, Fault>
+    ensures same { IfOk result (λ read. read ≡ request) }
+    ensures ok { OnOk result (fields_of fields.now ≡ []) }
+    ensures fault { IfErr result (FaultIn [] (fields_of fields.now)) }
+{
+    no_field(fields)?;
+    Ok(request)
 }
 
 /// The identifier of what is switched, released or taken away.
