@@ -1,5 +1,5 @@
 -- What a version holds agrees still with one more entry.
-use Rattle.std.proofs.Common.{◌≡◌, ℕ, ◌+◌, ◌<◌, ◌≤◌, ◌⊎◌, inl, inr, List, [], ◌∷◌, ◌++◌, length, leb, Bool, true, false, sym, ap, subst, refl, arith, ◌∙◌}
+use Rattle.std.proofs.Common.{◌≡◌, ℕ, ◌+◌, ◌<◌, ◌≤◌, ◌⊎◌, inl, inr, List, [], ◌∷◌, ◌++◌, length, leb, Bool, Some, true, false, sym, ap, subst, refl, arith, ◌∙◌}
 use Rattle.std.proofs.lemmas.Bool.Decides.{nat_tests}
 use Rattle.std.proofs.lemmas.List.Sums.{sum_by-append}
 use Rattle.std.proofs.lemmas.Grind.{common_steps}
@@ -12,9 +12,13 @@ use Rattle.graph_pages.specs.Graph.{GraphView}
 use Rattle.link_rules.specs.Map.{IsMap}
 use Rattle.room_words.specs.Overlay.{no_overlay}
 use Rattle.room_words.specs.declared.event.Entry.{Entry}
+use Rattle.room_words.specs.declared.event.Event.{Event}
+use Rattle.room_words.specs.declared.event.Event.TheVariants as event
 use Rattle.room_words.specs.declared.overlay.Overlay.{Overlay}
+use Rattle.room_words.specs.declared.refused.Why.{Why}
+use Rattle.room_words.specs.declared.refused.Why.TheVariants as why
 use Rattle.versions.specs.Held.{Agrees, now_in, past_of}
-use Rattle.versions.specs.History.{IsNow, Judges, Network, Replays, Takes, entry_bytes, event_bytes, log_bytes, most_entries, most_log_bytes}
+use Rattle.versions.specs.History.{IsFull, IsNow, Judges, Network, Refuses, Replays, Takes, entry_bytes, event_bytes, log_bytes, most_entries, most_log_bytes}
 use Rattle.versions.specs.Past.{Past}
 use Rattle.versions.specs.declared.held.Held.{Held}
 
@@ -82,3 +86,10 @@ agrees_first base graph faultless stands map =
 pub now_of : (held inside : Held) (past : Past) → held ≡ inside → past_of inside ≡ past → Agrees inside → IsNow past.base past.log (now_in held)
 now_of held inside past same is agrees =
     subst (λ (p : Past). IsNow p.base p.log (now_in held)) is (subst (λ (h : Held). IsNow inside.base inside.log (now_in h)) (sym same) agrees.now)
+
+-- a refusal on the network that a log with room makes is the judgement after that log
+pub judged_now : (base : List Statement) (log : List Entry) (one : Event) (now : Network) (reason : Why) → (IsFull log one → ⊥) → IsNow base log now → Refuses now one reason → Judges base log one (Some reason)
+judged_now base log one now (why.Act refusal) room is_now refuses = (room, (now, is_now, refuses))
+judged_now base log one now (why.Diff refusal) room is_now refuses = (room, (now, is_now, refuses))
+judged_now base log (event.Act act) now (why.Log full) room is_now refuses = absurd refuses
+judged_now base log (event.Cutover d) now (why.Log full) room is_now refuses = absurd refuses

@@ -1,4 +1,5 @@
-mod OneJudgement
-mod OneNetwork
-mod Sound
 pub mod Agreeing
+pub mod OneJudgement
+pub mod OneNetwork
+pub mod Sound
+pub mod TraceLemmas

@@ -52,12 +52,14 @@ impl Version {
         let graph = &self.held.graph;
         let mut tracer = Tracer::reserve(alloc, graph)?;
         walks_are_reach();
-        if tracer.trace(graph, start, phases).is_err() {
-            return Err(TraceNo::NoSuch);
+        match tracer.trace(graph, start, phases) {
+            Ok(()) => {
+                let text = text_of(alloc, self.number(), &tracer)?;
+                into.extend_from_slice(&text)?;
+                Ok(())
+            }
+            Err(NoSuch) => Err(TraceNo::NoSuch),
         }
-        let text = text_of(alloc, self.number(), &tracer)?;
-        into.extend_from_slice(&text)?;
-        Ok(())
     }
 }
 

@@ -10,6 +10,7 @@ ghost use Rattle.versions.specs.History.{IsNow};
 use crate::held::Held;
 use crate::laws::histories_are_judged_in_one_way;
 use crate::limits::log_room;
+use crate::serials::count_of;
 use board::Dated;
 use cim_model::the_empty_overlay_stands;
 use cim_records::Index;
@@ -117,18 +118,18 @@ impl Dated for Version {
 }
 
 impl Advance for Version {
-    ghost use Rattle.versions.specs.History.{Judges};
+    ghost use Rattle.versions.specs.History.{Judges, event_ticks};
 
     ghost judges = { Judges };
 
-    ghost ticks = { λ event. 0 };
+    ghost ticks = { event_ticks };
 
     fn one_judgement() {
         histories_are_judged_in_one_way();
     }
 
     fn serial(&self, console: u8) -> u32 {
-        self.held.log.iter().filter(|entry| entry.console == console).count() as u32 + 1
+        count_of(&self.held.log, console) + 1
     }
 
     fn entry(&self, index: u32) -> &Entry {
