@@ -180,8 +180,9 @@ impl<L: Ledger> Night<L> {
     ) -> Result<(), Fail>
         requires { IsConsole console }
     {
-        let CoreReply::Shown(seen) =
-            self.room.step(&CoreEvent::Ask { console }, &mut self.steps)?
+        let CoreReply::Shown(seen) = self
+            .room
+            .step(&CoreEvent::Ask { console }, &mut self.steps)?
         else {
             return Err(Fail::new("no answer to an ask"));
         };

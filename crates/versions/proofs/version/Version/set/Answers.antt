@@ -6,6 +6,8 @@ use Rattle.versions.proofs.version.Version.set.Goals as goal
 
 pub returns : goal.returns
 returns c =
-    let held = c.deref.result.now in
-    (held.overlay, subst (λ (m : List Statement). IsNow c.args.self.now.base c.args.self.now.log (record { model = m; overlay = held.overlay })) (sym c.set.ensures.set)
-        (now_of held _ c.args.self.now c.deref.ensures c.self.view_is c.self.invariant))
+    let held = c.deref.result.now in (
+      held.overlay,
+      subst (λ (m : List Statement). IsNow c.args.self.now.base c.args.self.now.log (record { model = m; overlay = held.overlay })) (sym c.set.ensures.set)
+          (now_of held _ c.args.self.now c.deref.ensures c.self.view_is c.self.invariant),
+    )

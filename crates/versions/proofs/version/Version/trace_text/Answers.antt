@@ -22,13 +22,16 @@ pub returns-in-Ok-clause-ok : goal.returns-in-Ok-clause-ok
 returns-in-Ok-clause-ok c =
     let held = c.deref.result.now in
     let agrees = subst Agrees (sym c.deref.ensures) c.self.invariant in
-    let start = c.args.start.number in
-    (c.deref-in-Ok.result.now, c.in_ok-extend_from_slice-in-Ok.ensures.items, record {
-      now = now_in held;
-      replays = now_of held _ c.args.self.now c.deref.ensures c.self.view_is c.self.invariant;
-      live = a_star held.index held.overlay held.graph start agrees.map (λ none. let failed : false ≡ true = rw c.in-Ok.is at (c.trace.ensures.no_such.1 none) in absurd cc);
-      rows = c.trace.new.self.rows;
-      trace = other_trace (wiring held.graph) (network held.index held.overlay) start c.args.phases c.trace.new.self.rows
-          (λ y p. c.walks_are_reach.ensures.equipment held.index held.overlay held.graph agrees.faultless agrees.stands agrees.map start c.args.phases y p) c.in-Ok.ensures.traced;
-      is_text = c.deref-in-Ok.ensures.value ∙ (c.in_ok-text-in-Ok.ensures ∙ ap (λ (at : ℕ). trace_text at c.trace.new.self.rows) c.number.ensures);
-    })
+    let start = c.args.start.number in (
+      c.deref-in-Ok.result.now,
+      c.in_ok-extend_from_slice-in-Ok.ensures.items,
+      record {
+        now = now_in held;
+        replays = now_of held _ c.args.self.now c.deref.ensures c.self.view_is c.self.invariant;
+        live = a_star held.index held.overlay held.graph start agrees.map (λ none. let failed : false ≡ true = rw c.in-Ok.is at (c.trace.ensures.no_such.1 none) in absurd cc);
+        rows = c.trace.new.self.rows;
+        trace = other_trace (wiring held.graph) (network held.index held.overlay) start c.args.phases c.trace.new.self.rows
+            (λ y p. c.walks_are_reach.ensures.equipment held.index held.overlay held.graph agrees.faultless agrees.stands agrees.map start c.args.phases y p) c.in-Ok.ensures.traced;
+        is_text = c.deref-in-Ok.ensures.value ∙ (c.in_ok-text-in-Ok.ensures ∙ ap (λ (at : ℕ). trace_text at c.trace.new.self.rows) c.number.ensures);
+      },
+    )

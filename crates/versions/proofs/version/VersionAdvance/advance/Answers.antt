@@ -14,8 +14,9 @@ returns-in-Err-moved-clause-refused g c why is =
     let denied : c.in-Err-moved.denied ≡ Refused why = cc in
     let told = c.in-Err-moved.ensures.refused why (ap Err denied) in
     let bytes : held.bytes ≡ log_bytes c.args.self.now.log = ap (λ (h : Held). h.bytes) c.deref-held.ensures ∙ (c.self.invariant.bytes ∙ ap (λ (p : Past). log_bytes p.log) c.self.view_is) in
-    let entries : c.len.result ≡ length c.args.self.now.log = c.len.ensures ∙ ap (λ (p : Past). length p.log) past in
-    (told.0 ∙ ap (λ (p : Past). length p.log) past,
-        judged_now c.args.self.now.base c.args.self.now.log c.args.entry.now.event (now_in held) why.why
-            (λ full. c.in_default.ensures.room (subst (λ (n : ℕ). HasNoRoom n held.bytes c.args.entry.now.event) (sym entries) (subst (λ (n : ℕ). HasNoRoom (length c.args.self.now.log) n c.args.entry.now.event) (sym bytes) full)))
-            (now_of held _ c.args.self.now c.deref-held.ensures c.self.view_is c.self.invariant) told.1)
+    let entries : c.len.result ≡ length c.args.self.now.log = c.len.ensures ∙ ap (λ (p : Past). length p.log) past in (
+      told.0 ∙ ap (λ (p : Past). length p.log) past,
+      judged_now c.args.self.now.base c.args.self.now.log c.args.entry.now.event (now_in held) why.why
+          (λ full. c.in_default.ensures.room (subst (λ (n : ℕ). HasNoRoom n held.bytes c.args.entry.now.event) (sym entries) (subst (λ (n : ℕ). HasNoRoom (length c.args.self.now.log) n c.args.entry.now.event) (sym bytes) full)))
+          (now_of held _ c.args.self.now c.deref-held.ensures c.self.view_is c.self.invariant) told.1,
+    )

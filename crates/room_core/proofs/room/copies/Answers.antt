@@ -1,6 +1,6 @@
 use Rattle.std.proofs.Common.{◌≡◌, [], ◌∷◌, ◌++◌, ◌∙◌}
 use Rattle.std.proofs.lemmas.List.{replicate_more}
-use Rattle.room_core.proofs.core.copies.Goals as goal
+use Rattle.room_core.proofs.room.copies.Goals as goal
 
 pub loop-preserved : goal.loop-preserved
 loop-preserved g c =

@@ -1,7 +1,7 @@
 use Rattle.std.proofs.Common.{◌≡◌, ◌-◌, ℕ, List, length, ap, ◌∙◌}
 use Rattle.std.proofs.lemmas.List.{map-set}
 use Rattle.room_core.specs.Machine.{RoomState, with_seen}
-use Rattle.room_core.proofs.core.RoomCore.show.Goals as goal
+use Rattle.room_core.proofs.room.RoomCore.show.Goals as goal
 
 pub returns : goal.returns
 returns g c =

@@ -1,7 +1,7 @@
 use Rattle.std.proofs.Common.{◌≡◌, List, Some, length, Err, sym, ap, subst, ◌∙◌}
 use Rattle.room_core.specs.Machine.{RoomState, with_seen}
 use Rattle.room_words.specs.declared.event.Event.{Event}
-use Rattle.room_core.proofs.core.RoomCore.submit.Goals as goal
+use Rattle.room_core.proofs.room.RoomCore.submit.Goals as goal
 
 pub returns-in-Err-Refused-clause-ok : goal.returns-in-Err-Refused-clause-ok
 returns-in-Err-Refused-clause-ok g c =

@@ -2,7 +2,7 @@ use Rattle.std.proofs.Common.{◌≡◌, ℕ, ◌-◌, ◌<◌, ◌≤◌, lengt
 use Rattle.std.proofs.lemmas.List.{get_or-map}
 use Rattle.desk.specs.Consoles.{IsConsole}
 use Rattle.room_core.specs.Machine.{RoomState, seen_by}
-use Rattle.room_core.proofs.core.RoomCore.history.Goals as goal
+use Rattle.room_core.proofs.room.RoomCore.history.Goals as goal
 
 pub returns-clause-within : goal.returns-clause-within
 returns-clause-within g c = subst (λ (r : RoomState g.row.V-Origin.Denot). (console : ℕ) → IsConsole console → seen_by r console ≤ length r.log) c.self.view_is within

@@ -1,6 +1,6 @@
 use Rattle.std.proofs.Common.{◌≡◌, ◌-◌, ◌≤◌, length}
 use Rattle.room_core.specs.Views.{HasSeen}
-use Rattle.room_core.proofs.core.RoomCore.version_at.Given as goal
+use Rattle.room_core.proofs.room.RoomCore.version_at.Given as goal
 
 -- the version has a prefix of the history that is no longer than what is wanted
 abbrev pub invariant-loop-version : goal.invariant-loop-version

@@ -2,7 +2,7 @@ use Rattle.std.proofs.Common.{◌≡◌, ℕ, ◌≤◌, ◌++◌, List, take}
 use Rattle.desk.specs.Consoles.{IsConsole}
 use Rattle.room_core.specs.Machine.{Runs, seen_by}
 use Rattle.room_core.specs.declared.reply.CoreReply.{CoreReply}
-use Rattle.room_core.proofs.core.RoomCore.run_events.Given as goal
+use Rattle.room_core.proofs.room.RoomCore.run_events.Given as goal
 
 -- the steps so far were made, and these are their replies
 abbrev pub invariant-loop-event : goal.invariant-loop-event
