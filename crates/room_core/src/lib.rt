@@ -1,14 +1,14 @@
 //! The room as a machine of one thread: sixteen consoles submit, look and ask, one step after the other.
 #![tactic(auto)]
 
-mod core;
 mod event;
 mod looks;
 mod reply;
+mod room;
 mod run;
 mod submits;
 
 pub use cim_words::NoMemory;
-pub use core::RoomCore;
 pub use event::CoreEvent;
 pub use reply::CoreReply;
+pub use room::RoomCore;

@@ -6,8 +6,8 @@ ghost use Rattle.room_core.specs.Machine.{IsStep, MayLook, seen_by};
 ghost use Rattle.room_core.specs.Views.{HasSeen};
 ghost use Rattle.room_core.specs.declared.event.CoreEvent.TheVariants as core_event;
 
-use crate::core::RoomCore;
 use crate::reply::CoreReply;
+use crate::room::RoomCore;
 use cim_words::NoMemory;
 use desk::Advance;
 use room_words::Denied;

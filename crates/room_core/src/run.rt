@@ -7,9 +7,9 @@ ghost use Rattle.room_core.specs.Views.{IsEvent};
 ghost use Rattle.room_core.specs.declared.event.CoreEvent.{CoreEvent};
 ghost use Rattle.room_core.specs.declared.reply.CoreReply.{CoreReply};
 
-use crate::core::RoomCore;
 use crate::event::CoreEvent;
 use crate::reply::CoreReply;
+use crate::room::RoomCore;
 use cim_words::NoMemory;
 use desk::Advance;
 use std::sync::ledger::Ledger;

@@ -7,8 +7,8 @@ ghost use Rattle.room_core.specs.Machine.{IsStep, with_seen};
 ghost use Rattle.room_core.specs.Views.{HasSeen};
 ghost use Rattle.room_core.specs.declared.event.CoreEvent.TheVariants as core_event;
 
-use crate::core::RoomCore;
 use crate::reply::CoreReply;
+use crate::room::RoomCore;
 use cim_words::NoMemory;
 use desk::{Advance, legal_histories_go_on};
 use room_words::{Denied, Entry, Event, Receipt};
