@@ -68,27 +68,55 @@ fn bytes_of(rt: &HostRuntime, name: &str) -> Result<Vec<u8>>
     Ok(bytes)
 }
 
-fn main(rt: HostRuntime) -> Result<()> {
-    let alloc = rt.alloc();
-    let base = bytes_of(&rt, "base.nt")?;
-    let lines = bytes_of(&rt, "lines.nt")?;
-    let document = bytes_of(&rt, "document")?;
-    let change = read(alloc, &bytes_of(&rt, "change")?)?;
-    let start = Instant::now(&rt)?;
-    let count = read_document(alloc, &lines)?.len();
-    let as_base = start.elapsed(&rt)?.as_millis();
-    let start = Instant::now(&rt)?;
-    let difference = read(alloc, &document)?;
-    let as_document = start.elapsed(&rt)?.as_millis();
-    let start = Instant::now(&rt)?;
-    let set = checked(alloc, &base)?;
-    let check = start.elapsed(&rt)?.as_millis();
-    let start = Instant::now(&rt)?;
-    let left = judged(alloc, &set, &change)?;
-    let judge = start.elapsed(&rt)?.as_millis();
-    let listed = difference.rev().len();
-    println!(&rt; "{count} {listed} {} {left} {as_base} {as_document} {check} {judge}", set.len())?;
+/// Reads lines as a base.
+fn time_base(rt: &HostRuntime) -> Result<()> {
+    let lines = bytes_of(rt, "lines.nt")?;
+    let start = Instant::now(rt)?;
+    let count = read_document(rt.alloc(), &lines)?.len();
+    let took = start.elapsed(rt)?.as_millis();
+    println!(rt; "{count} {took}")?;
     Ok(())
+}
+
+/// Reads them as a difference.
+fn time_document(rt: &HostRuntime) -> Result<()> {
+    let document = bytes_of(rt, "document")?;
+    let start = Instant::now(rt)?;
+    let count = read(rt.alloc(), &document)?.fwd().len();
+    let took = start.elapsed(rt)?.as_millis();
+    println!(rt; "{count} {took}")?;
+    Ok(())
+}
+
+/// Checks a base.
+fn time_check(rt: &HostRuntime) -> Result<StatementSet>
+    ensures { IfOk result IsFaultless }
+{
+    let base = bytes_of(rt, "base.nt")?;
+    let start = Instant::now(rt)?;
+    let set = checked(rt.alloc(), &base)?;
+    let took = start.elapsed(rt)?.as_millis();
+    println!(rt; "{} {took}", set.len())?;
+    Ok(set)
+}
+
+/// Judges a difference on it.
+fn time_judgement(rt: &HostRuntime, set: &StatementSet) -> Result<()>
+    requires { IsFaultless set.now }
+{
+    let change = read(rt.alloc(), &bytes_of(rt, "change")?)?;
+    let start = Instant::now(rt)?;
+    let left = judged(rt.alloc(), set, &change)?;
+    let took = start.elapsed(rt)?.as_millis();
+    println!(rt; "{left} {took}")?;
+    Ok(())
+}
+
+fn main(rt: HostRuntime) -> Result<()> {
+    time_base(&rt)?;
+    time_document(&rt)?;
+    let set = time_check(&rt)?;
+    time_judgement(&rt, &set)
 }
 RATTLE
 cat > "$bench/proofs/judged/Answers.antt" <<'ANTT'
@@ -130,7 +158,9 @@ with open("change", "w") as file:
 least = None
 for _ in range(runs):
     text = subprocess.run([program], check=True, stdout=subprocess.PIPE).stdout.decode()
-    count, _, statements, left, *times = map(int, text.split())
+    rows = [list(map(int, line.split())) for line in text.splitlines()]
+    count, _, statements, left = (row[0] for row in rows)
+    times = [row[1] for row in rows]
     least = times if least is None else list(map(min, least, times))
 as_base, as_document, check, judge = least
 print(f"{count} lines: as a base {as_base} ms, as a difference {as_document} ms, ratio {as_document / as_base:.2f}")
