@@ -1,4 +1,0 @@
-pub mod Held
-pub mod History
-pub mod Past
-pub mod Traced

@@ -1,6 +1,0 @@
-pub mod Entries
-pub mod Reading
-pub mod Replies
-pub mod Requests
-pub mod Values
-pub mod Words
