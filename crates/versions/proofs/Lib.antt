@@ -1,0 +1,5 @@
+pub mod Agreeing
+pub mod OneJudgement
+pub mod OneNetwork
+pub mod Sound
+pub mod TraceLemmas

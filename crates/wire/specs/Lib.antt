@@ -1,0 +1,6 @@
+pub mod Entries
+pub mod Reading
+pub mod Replies
+pub mod Requests
+pub mod Values
+pub mod Words
