@@ -4,5 +4,6 @@ pub mod OneRequest
 pub mod OneValue
 pub mod Said
 pub mod Splits
+pub mod StageWord
 pub mod Tables
 pub mod Utf8

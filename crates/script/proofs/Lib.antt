@@ -1,0 +1,4 @@
+pub mod Consoles
+pub mod Opening
+pub mod Sending
+pub mod Standing
