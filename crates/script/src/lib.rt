@@ -6,11 +6,11 @@ mod fault;
 mod history;
 mod line;
 mod output;
-mod play;
+mod playing;
 mod rehearsal;
 mod staging;
 mod turns;
 
 pub use cim_words::NoMemory;
 pub use fault::PlayFault;
-pub use play::play;
+pub use playing::play;
