@@ -1,2 +1,3 @@
+pub mod OneStep
 pub mod Steps
 pub mod Views

@@ -2,6 +2,7 @@
 #![tactic(auto)]
 
 mod event;
+mod laws;
 mod looks;
 mod reply;
 mod room;
@@ -10,5 +11,6 @@ mod submits;
 
 pub use cim_words::NoMemory;
 pub use event::CoreEvent;
+pub use laws::steps_have_one_reply;
 pub use reply::CoreReply;
 pub use room::RoomCore;

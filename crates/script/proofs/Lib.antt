@@ -1,4 +1,5 @@
 pub mod Consoles
+pub mod OneAnswer
 pub mod Opening
 pub mod Sending
 pub mod Standing

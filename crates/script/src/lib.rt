@@ -4,6 +4,7 @@
 mod answers;
 mod fault;
 mod history;
+mod laws;
 mod line;
 mod output;
 mod playing;
@@ -13,4 +14,5 @@ mod turns;
 
 pub use cim_words::NoMemory;
 pub use fault::PlayFault;
+pub use laws::scripts_have_one_answer;
 pub use playing::play;

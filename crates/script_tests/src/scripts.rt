@@ -1,49 +1,9 @@
 //! Scripts with what they are answered, each reply behind its console, and with the history that they leave.
 
-use crate::night::replies;
-use crate::texts::{base, lines};
-use std::alloc::Global;
-use std::marker::Brand;
-use std::rt::HostRuntime;
-use std::sync::ledger::Blank;
+use crate::feeder::FEEDER;
+use crate::playing::answers;
+use crate::texts::lines;
 use std::test::Fail;
-
-/// The nodes a1, a2 and a3, the source e1, the breaker b1, the segment 51 of 100 m and the consumer c1, one behind another.
-const FEEDER: &str = r#"~a1> a <:ConnectivityNode> .
-~a2> a <:ConnectivityNode> .
-~a3> a <:ConnectivityNode> .
-~e1> a <:EnergySource> .
-~b1> a <:Breaker> .
-~b1> <:Switch.normalOpen> "false" .
-~51> a <:ACLineSegment> .
-~51> <:Conductor.length> "100" .
-~c1> a <:EnergyConsumer> .
-~71> a <:Terminal> .
-~71> <:Terminal.ConductingEquipment> ~e1> .
-~71> <:Terminal.ConnectivityNode> ~a1> .
-~72> a <:Terminal> .
-~72> <:Terminal.ConductingEquipment> ~b1> .
-~72> <:Terminal.ConnectivityNode> ~a1> .
-~73> a <:Terminal> .
-~73> <:Terminal.ConductingEquipment> ~b1> .
-~73> <:Terminal.ConnectivityNode> ~a2> .
-~74> a <:Terminal> .
-~74> <:Terminal.ConductingEquipment> ~51> .
-~74> <:Terminal.ConnectivityNode> ~a2> .
-~74> <:ACDCTerminal.sequenceNumber> "1" .
-~75> a <:Terminal> .
-~75> <:Terminal.ConductingEquipment> ~51> .
-~75> <:Terminal.ConnectivityNode> ~a3> .
-~75> <:ACDCTerminal.sequenceNumber> "2" .
-~76> a <:Terminal> .
-~76> <:Terminal.ConductingEquipment> ~c1> .
-~76> <:Terminal.ConnectivityNode> ~a3> .
-~a6> a <:ConnectivityNode> .
-~e2> a <:EnergySource> .
-~7c> a <:Terminal> .
-~7c> <:Terminal.ConductingEquipment> ~e2> .
-~7c> <:Terminal.ConnectivityNode> ~a6> .
-"#;
 
 /// A script, and what it is answered.
 struct Script {
@@ -93,23 +53,13 @@ const SCRIPTS: &[Script] = &[
     },
 ];
 
-/// What a script is answered, and what it should be.
-fn told(alloc: Global, script: &Script, feeder: &str) -> Result<(String, String), Fail> {
-    let asked = lines(alloc, script.asked)?;
-    let told = replies::<Brand>(alloc, feeder.as_bytes(), asked.as_bytes(), Blank::new(1))?;
-    match String::from_utf8(told) {
-        Ok(text) => Ok((text, lines(alloc, script.answered)?)),
-        Err(_) => Err(Fail::new("replies that are no text")),
-    }
-}
-
 #[test]
 fn scripts_are_answered(rt: HostRuntime) -> Result<(), Fail> {
     let alloc = rt.alloc();
-    let feeder = base(alloc, FEEDER)?;
     for (number, script) in SCRIPTS.iter().enumerate() {
-        let (text, wanted) = told(alloc, script, &feeder)?;
-        assert_eq!(rt; text, wanted, "script {number}");
+        let asked = lines(alloc, script.asked)?;
+        let told = answers(alloc, FEEDER, asked.as_bytes())?;
+        assert_eq!(rt; told, lines(alloc, script.answered)?, "script {number}");
     }
     Ok(())
 }
