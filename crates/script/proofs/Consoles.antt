@@ -1,5 +1,5 @@
 -- A line names one console.
-use Rattle.std.proofs.Common.{◌≡◌, ℕ, ◌+◌, ◌-◌, ◌<◌, ◌≤◌, ◌^◌, ◌/◌, ◌%◌, ◌⊎◌, inl, inr, List, [], ◌∷◌, ◌++◌, cases_lt, arith, refl, sym, ap, ◌∙◌, subst}
+use Rattle.std.proofs.Common.{◌≡◌, ℕ, ◌+◌, ◌-◌, ◌<◌, ◌≤◌, ◌^◌, ◌/◌, ◌%◌, ◌⊎◌, inl, inr, List, [], ◌∷◌, ◌++◌, cases_lt, arith, refl, sym, ap, ◌∙◌, subst, append_assoc, codes}
 use Rattle.std.proofs.lemmas.Fmt.{decimal_by_steps, decimal_digit}
 use Rattle.std.specs.Fmt.{decimal}
 use Rattle.desk.specs.Consoles.{IsConsole}
@@ -18,23 +18,23 @@ small_digits n below = decimal_by_steps IsSmall one more n (omega (arith, below)
     more n ds many front below =
         let tens : n / 10 ≡ 1 = omega (arith, many, below) in
         let ones : 48 + n % 10 ≡ 38 + n = omega (arith, many, below) in
-        case front (omega (arith, below)) of {
+        elim (front (omega (arith, below))) [
           | inl x ↦ inr (many, rw (x.1, tens, ones) refl)
           | inr x ↦ absurd (let over = x.0 in omega arith)
-        }
+        ]
 
 -- how a console stands before a text
 pub begins : (console : ℕ) (text : List ℕ) → IsConsole console
     → ((console < 10) × (behind_console console text ≡ 99 ∷ (48 + console) ∷ 32 ∷ text)) ⊎ ((10 ≤ console) × (behind_console console text ≡ 99 ∷ 49 ∷ (38 + console) ∷ 32 ∷ text))
-begins console text is = case small_digits console (omega (arith, is.1)) (omega (arith, is.1)) of {
-  | inl x ↦ inl (x.0, ap (λ digits. 99 ∷ digits ++ 32 ∷ text) x.1)
-  | inr x ↦ inr (x.0, ap (λ digits. 99 ∷ digits ++ 32 ∷ text) x.1)
-}
+begins console text is = elim (small_digits console (omega (arith, is.1)) (omega (arith, is.1))) [
+  | inl x ↦ inl (x.0, ap (λ (digits : List ℕ). 99 ∷ digits ++ 32 ∷ text) x.1)
+  | inr x ↦ inr (x.0, ap (λ (digits : List ℕ). 99 ∷ digits ++ 32 ∷ text) x.1)
+]
 
 -- a line names one console, and asks one thing of it
 pub one_console : (line : List ℕ) (a b : ℕ) (p q : List ℕ) → IsConsole a → IsConsole b → line ≡ behind_console a p → line ≡ behind_console b q → (a ≡ b) × (p ≡ q)
-one_console line a b p q is is' x y = case begins a p is of {
-  | inl m ↦ case begins b q is' of {
+one_console line a b p q is is' x y = elim (begins a p is) [
+  | inl m ↦ elim (begins b q is') [
     | inl n ↦
         let same : 99 ∷ (48 + a) ∷ 32 ∷ p ≡ 99 ∷ (48 + b) ∷ 32 ∷ q = sym (x ∙ m.1) ∙ y ∙ n.1 in
         let digits : 48 + a ≡ 48 + b = cc in
@@ -43,17 +43,21 @@ one_console line a b p q is is' x y = case begins a p is of {
     | inr n ↦
         let same : 99 ∷ (48 + a) ∷ 32 ∷ p ≡ 99 ∷ 49 ∷ (38 + b) ∷ 32 ∷ q = sym (x ∙ m.1) ∙ y ∙ n.1 in
         let space : 32 ≡ 38 + b = cc in
-        absurd (let over = n.0 in omega arith)
-  }
-  | inr m ↦ case begins b q is' of {
+        absurd (let over = n.0 in omega (arith, space))
+  ]
+  | inr m ↦ elim (begins b q is') [
     | inl n ↦
         let same : 99 ∷ 49 ∷ (38 + a) ∷ 32 ∷ p ≡ 99 ∷ (48 + b) ∷ 32 ∷ q = sym (x ∙ m.1) ∙ y ∙ n.1 in
         let space : 38 + a ≡ 32 = cc in
-        absurd (let over = m.0 in omega arith)
+        absurd (let over = m.0 in omega (arith, space))
     | inr n ↦
         let same : 99 ∷ 49 ∷ (38 + a) ∷ 32 ∷ p ≡ 99 ∷ 49 ∷ (38 + b) ∷ 32 ∷ q = sym (x ∙ m.1) ∙ y ∙ n.1 in
         let digits : 38 + a ≡ 38 + b = cc in
         let rest : p ≡ q = cc in
         (omega (arith, digits), rest)
-  }
-}
+  ]
+]
+
+-- the mark of a console stands before a text
+pub behind_mark : (console : ℕ) (text : List ℕ) → behind_console console [] ++ text ≡ behind_console console text
+behind_mark console text = append_assoc (codes "c") (decimal console ++ codes " " ++ []) text ∙ ap (λ (l : List ℕ). codes "c" ++ l) (append_assoc (decimal console) (codes " " ++ []) text)

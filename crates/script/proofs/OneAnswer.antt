@@ -117,7 +117,7 @@ module _ (laws : Laws) (before after other : RehearsalState) where
   one_turn turn x y (inl p) (inl q) = (p.1 ∙ sym q.1, p.2 ∙ sym q.2)
   one_turn turn x y (inr (inl p)) (inr (inl q)) = (p.1 ∙ sym q.1, p.2 ∙ sym q.2)
   one_turn turn x y (inr (inr p)) (inr (inr q)) =
-      let same = one_console turn.line p.0 q.0 p.1 q.1 p.3.console q.3.console p.3.layout q.3.layout in
+      let same = one_console turn.line p.0 q.0 p.1 q.1 p.3.is_console q.3.is_console p.3.layout q.3.layout in
       let these = subst (λ (asked : List ℕ). AnswersConsole before q.0 (document_text turn.document) asked p.2 after) same.1 (subst (λ (c : ℕ). AnswersConsole before c (document_text turn.document) p.1 p.2 after) same.0 p.5) in
       let one = one_of_console q.0 (document_text turn.document) q.1 p.2 q.2 these q.5 in
       (p.4 ∙ ap (λ (c : ℕ). behind_console c p.2) same.0 ∙ ap (λ (told : List ℕ). behind_console q.0 told) one.0 ∙ sym q.4, one.1)
@@ -125,8 +125,8 @@ module _ (laws : Laws) (before after other : RehearsalState) where
   one_turn turn x y (inl p) (inr (inr q)) = absurd (let fits = q.3.fits in let long = p.0 in omega arith)
   one_turn turn x y (inr (inl p)) (inl q) = absurd (let fits = p.0.fits in let long = q.0 in omega arith)
   one_turn turn x y (inr (inr p)) (inl q) = absurd (let fits = p.3.fits in let long = q.0 in omega arith)
-  one_turn turn x y (inr (inl p)) (inr (inr q)) = absurd (p.0.none q.0 q.1 q.3.console q.3.layout)
-  one_turn turn x y (inr (inr p)) (inr (inl q)) = absurd (q.0.none p.0 p.1 p.3.console p.3.layout)
+  one_turn turn x y (inr (inl p)) (inr (inr q)) = absurd (p.0.none q.0 q.1 q.3.is_console q.3.layout)
+  one_turn turn x y (inr (inr p)) (inr (inl q)) = absurd (q.0.none p.0 p.1 p.3.is_console p.3.layout)
 
 one_run : Laws → (turns : List Turn) (before after other : RehearsalState) (x y : List ℕ) → AreAnswered before turns x after → AreAnswered before turns y other → Same x y after other
 one_run laws [] before after other x y p q = (p.0 ∙ sym q.0, p.1 ∙ sym q.1)

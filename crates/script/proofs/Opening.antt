@@ -1,16 +1,15 @@
 -- A document begins after the line by which a console stages it, and after no other.
-use Rattle.std.proofs.Common.{◌≡◌, ℕ, ◌+◌, ◌-◌, ◌<◌, ◌≤◌, List, [], ◌∷◌, ◌++◌, length, get_or, Bool, true, false, arith, refl, sym, ap, ◌∙◌, subst}
+use Rattle.std.proofs.Common.{◌≡◌, ℕ, ◌+◌, ◌-◌, ◌<◌, ◌≤◌, ◌⊎◌, inl, inr, List, [], ◌∷◌, ◌++◌, length, get_or, Bool, true, false, arith, refl, sym, ap, ◌∙◌, subst}
 use Rattle.std.proofs.lemmas.Bool.{false_from_ne_true}
 use Rattle.std.proofs.lemmas.List.Folds.{Any-from_list_any, list_any_at}
 use Rattle.std.proofs.lemmas.List.FromFn.{get_or-range_with_len, length-range_with_len}
 use Rattle.std.proofs.lemmas.Slice.Eq.{bytes_eq-Decides}
 use Rattle.std.specs.Str.{bytes_eq}
+use Rattle.cim_words.specs.Written.{line_limit}
 use Rattle.desk.specs.Consoles.{IsConsole, most_consoles}
-use Rattle.script.specs.Lines.{Asks, behind_console}
+use Rattle.script.specs.Lines.{Asks, behind_console, stage_word}
 use Rattle.script.specs.Turns.{consoles, opens, stage_line}
-use Rattle.wire.specs.Requests.{request_word}
-use Rattle.wire.specs.declared.request_word.RequestWord.TheVariants as word
-use Rattle.script.proofs.Consoles.{one_console}
+use Rattle.script.proofs.Consoles.{begins, one_console}
 
 -- the place of a console in the list of consoles
 at_place : (console d : ℕ) → IsConsole console → get_or consoles (console - 1) d ≡ console
@@ -31,9 +30,19 @@ stages line is =
     (found.1, (omega (arith, number), omega (arith, number, within)), (bytes_eq-Decides line (stage_line found.1)).0 found.4)
 
 -- a line that asks something else of a console begins no document, and neither does one that names no console
-pub closed_to : (line : List ℕ) (console : ℕ) (asked : List ℕ) → IsConsole console → line ≡ behind_console console asked → (asked ≡ request_word word.Stage → ⊥) → opens line ≡ false
+pub closed_to : (line : List ℕ) (console : ℕ) (asked : List ℕ) → IsConsole console → line ≡ behind_console console asked → (asked ≡ stage_word → ⊥) → opens line ≡ false
 closed_to line console asked is says other =
-    false_from_ne_true (opens line) (λ begins. let staged = stages line begins in other (one_console line console staged.0 asked (request_word word.Stage) is staged.1 says staged.2).1)
+    false_from_ne_true (opens line) (λ begun. let staged = stages line begun in other (one_console line console staged.0 asked (stage_word) is staged.1 says staged.2).1)
 
 pub closed_to_none : (line : List ℕ) → ((console : ℕ) (request : List ℕ) → IsConsole console → line ≡ behind_console console request → ⊥) → opens line ≡ false
-closed_to_none line none = false_from_ne_true (opens line) (λ begins. let staged = stages line begins in none staged.0 (request_word word.Stage) staged.1 staged.2)
+closed_to_none line none = false_from_ne_true (opens line) (λ begun. let staged = stages line begun in none staged.0 (stage_word) staged.1 staged.2)
+
+-- a line that is too long begins no document either
+pub closed_to_long : (line : List ℕ) → line_limit < length line → opens line ≡ false
+closed_to_long line long = false_from_ne_true (opens line) (λ begun. let staged = stages line begun in by staged.0 staged.1 (begins staged.0 stage_word staged.1) staged.2)
+  where
+    by : (console : ℕ) → IsConsole console
+        → ((console < 10) × (behind_console console stage_word ≡ 99 ∷ (48 + console) ∷ 32 ∷ stage_word)) ⊎ ((10 ≤ console) × (behind_console console stage_word ≡ 99 ∷ 49 ∷ (38 + console) ∷ 32 ∷ stage_word))
+        → line ≡ stage_line console → ⊥
+    by console is (inl x) says = let few : length line ≡ 8 = ap length (says ∙ x.1) in omega (arith, long, few)
+    by console is (inr x) says = let few : length line ≡ 9 = ap length (says ∙ x.1) in omega (arith, long, few)

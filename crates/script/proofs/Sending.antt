@@ -1,6 +1,6 @@
 -- What went to the output, one text after the other.
 use Rattle.std.proofs.Common.{◌≡◌, ℕ, ◌+◌, ◌≤◌, List, [], ◌∷◌, ◌++◌, length, take, Option, Some, None, flat_map, arith, refl, sym, ap, subst, ◌∙◌, append_assoc, append-nil}
-use Rattle.std.proofs.lemmas.List.Folds.{flat_map-append}
+use Rattle.std.proofs.lemmas.Grind.{flat_map-append}
 use Rattle.std.proofs.Math.Seq.{take-append-add}
 use Rattle.grid_out.specs.Faults.{Rose}
 use Rattle.grid_out.specs.Notes.{Grows}
@@ -33,7 +33,7 @@ grows_more old mid (Some all) a b first next = grown mid first next.0 next.1 nex
         let same : held ≡ before = cc in
         (first.0, first.1, all_is ∙ ap (λ (l : List (List ℕ)). l ++ b) (sym same ∙ first.2) ∙ append_assoc first.0 a b)
 
-whole : List (List ℕ) → List ℕ
+abbrev whole : List (List ℕ) → List ℕ
 whole = flat_map (λ piece. piece)
 
 hands_none : (old : Option (List (List ℕ))) → HandsText old old []
@@ -44,7 +44,7 @@ hands_one old new piece hands = (piece ∷ [], append-nil piece, hands)
 
 hands_more : (old mid new : Option (List (List ℕ))) (a b : List ℕ) → HandsText old mid a → HandsText mid new b → HandsText old new (a ++ b)
 hands_more old mid new a b first next =
-    (first.0 ++ next.0, flat_map-append (λ piece. piece) first.0 next.0 ∙ ap (λ (l : List ℕ). l ++ _) first.1 ∙ ap (λ (l : List ℕ). a ++ l) next.1, grows_more old mid new first.0 next.0 first.2 next.2)
+    (first.0 ++ next.0, flat_map-append (λ piece. piece) first.0 next.0 ∙ ap (λ (l : List ℕ). l ++ whole next.0) first.1 ∙ ap (λ (l : List ℕ). a ++ l) next.1, grows_more old mid new first.0 next.0 first.2 next.2)
 
 pub sends_none : (before : OutputState) → Sends before before []
 sends_none before = record { gains = gains_none before.written; faults = refl; hands = hands_none before.handed }

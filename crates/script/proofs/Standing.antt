@@ -1,7 +1,7 @@
 -- Where the playing of a script stands between two lines.
-use Rattle.std.proofs.Common.{◌≡◌, ℕ, ◌<◌, ◌≤◌, List, [], ◌∷◌, ◌++◌, length, Option, Some, None, Bool, true, false, if◌then◌else◌, inl, inr, refl, sym, ap, subst, ◌∙◌, append_assoc, append-nil, arith, nat_lt, flat_map}
+use Rattle.std.proofs.Common.{◌≡◌, ℕ, ◌+◌, ◌<◌, ◌≤◌, List, [], ◌∷◌, ◌++◌, length, Option, Some, None, Bool, true, false, if◌then◌else◌, inl, inr, refl, sym, ap, subst, ◌∙◌, append_assoc, append-nil, arith, nat_lt, flat_map}
 use Rattle.std.proofs.lemmas.List.{length-append}
-use Rattle.std.proofs.lemmas.List.Folds.{flat_map-append}
+use Rattle.std.proofs.lemmas.Grind.{flat_map-append}
 use Rattle.std.proofs.lemmas.Bool.{false_from_ne_true, lt-ltb, ltb-true}
 use Rattle.cim_words.specs.Written.{line_feed}
 use Rattle.desk.specs.Consoles.{IsConsole}
@@ -11,13 +11,12 @@ use Rattle.room_words.specs.Differences.{Changes, most_bytes}
 use Rattle.room_words.specs.declared.stage_fault.StageFault.{StageFault}
 use Rattle.room_words.specs.declared.stage_fault.StageWord.TheVariants as stage
 use Rattle.script.specs.Answers.{Answers, AreAnswered, Stages}
-use Rattle.script.specs.Lines.{Asks, behind_console}
+use Rattle.script.specs.Lines.{Asks, behind_console, stage_word}
 use Rattle.script.specs.Rehearsal.{RehearsalState}
 use Rattle.script.specs.Staging.{Begins, GoesOn, HasFault, Says, Staged, StagesKept, Takes, kept, more_kept, with_more}
 use Rattle.script.specs.Turns.{Turn, alone, closes, document_text, is_skipped, opens, turns_from, with_line}
-use Rattle.wire.specs.Requests.{IsRequest, request_word}
+use Rattle.wire.specs.Requests.{IsRequest}
 use Rattle.wire.specs.declared.request.Request.TheVariants as request
-use Rattle.wire.specs.declared.request_word.RequestWord.TheVariants as word
 
 -- ---- documents
 
@@ -37,7 +36,8 @@ kept_more lines line = rw (document_more lines line) (by (nat_lt most_bytes (len
     by : (b : Bool) → nat_lt most_bytes (length text) ≡ b → more_kept (kept text) line ≡ kept (text ++ line ++ line_feed ∷ [])
     by true is =
         let long : most_bytes < length text = ltb-true most_bytes (length text) is in
-        let longer : most_bytes < length (text ++ line ++ line_feed ∷ []) = omega (arith, long, length-append text (line ++ line_feed ∷ [])) in
+        let size : length (text ++ line ++ line_feed ∷ []) ≡ length text + length (line ++ line_feed ∷ []) = length-append text (line ++ line_feed ∷ []) in
+        let longer : most_bytes < length (text ++ line ++ line_feed ∷ []) = omega (arith, long, size) in
         rw (kept_by text true is, kept_by (text ++ line ++ line_feed ∷ []) true (lt-ltb _ _ longer)) refl
     by false is = rw (kept_by text false is) refl
 
@@ -64,7 +64,7 @@ more_answered (first ∷ turns) before now after turn text reply are is =
 -- the document that is open is that of a turn that has begun
 abbrev IsOpen : Option Staged → Option Turn → Type 0
 IsOpen None None = Unit {0}
-IsOpen (Some staged) (Some begun) = Asks begun.line staged.console (request_word word.Stage) × (staged.text ≡ kept (document_text begun.document))
+IsOpen (Some staged) (Some begun) = Asks begun.line staged.console (stage_word) × (staged.text ≡ kept (document_text begun.document))
 IsOpen _ _ = ⊥
 
 -- Some turns of a script were answered by this text; one more has begun, or none has, and these lines are left.
@@ -80,12 +80,12 @@ stands_first start lines = record { done = []; begun = None; is_open = tt; turns
 
 -- the line that stages a document is a request to stage one
 abbrev pub StageIsRead : Type 0
-StageIsRead = IsRequest true (request_word word.Stage) request.Stage
+StageIsRead = IsRequest true (stage_word) request.Stage
 
-turn_staged : StageIsRead → (before after : RehearsalState) (staged : Staged) (begun : Turn) (told : List ℕ) → Asks begun.line staged.console (request_word word.Stage)
+turn_staged : StageIsRead → (before after : RehearsalState) (staged : Staged) (begun : Turn) (told : List ℕ) → Asks begun.line staged.console (stage_word)
     → staged.text ≡ kept (document_text begun.document) → StagesKept before staged told after → Answers before begun (behind_console staged.console told) after
 turn_staged law before after staged begun told asks same stages =
-    inr (inr (staged.console, request_word word.Stage, told, asks, refl,
+    inr (inr (staged.console, stage_word, told, asks, refl,
       inl (request.Stage, law, said before after staged (document_text begun.document) told same (nat_lt most_bytes (length (document_text begun.document))) refl stages)))
 
 module _ (law : StageIsRead) (start : RehearsalState) (lines : List (List ℕ)) where
@@ -125,12 +125,12 @@ module _ (law : StageIsRead) (start : RehearsalState) (lines : List (List ℕ)) 
       by None (Some staged) None is_open turns x =
           none_more rest (Some staged) now after text reply s.done (Some (alone line)) (x.2, x.3) (turns ∙ ap (λ (ts : List Turn). s.done ++ ts) (rw (x.0, x.1) refl)) s.answered x.4 x.5
       by (Some staged) None (Some begun) is_open turns x =
-          subst (λ (l : List ℕ). Stands start lines rest None after (text ++ l)) (sym x.2)
-          (one_more rest None now after text (behind_console staged.console x.1) line s.done None (with_line begun line) (turns ∙ ap (λ (ts : List Turn). s.done ++ ts) (rw (x.0) refl)) s.answered
-          (turn_staged law now after (with_more staged line) (with_line begun line) x.1 is_open.0 (ap (λ (t : Option (List ℕ)). more_kept t line) is_open.1 ∙ kept_more begun.document line) x.3))
+          subst (λ (l : List ℕ). Stands start lines rest None after (text ++ l)) (sym x.1.1)
+          (one_more rest None now after text (behind_console staged.console x.1.0) line s.done None (with_line begun line) (turns ∙ ap (λ (ts : List Turn). s.done ++ ts) (rw (x.0) refl)) s.answered
+          (turn_staged law now after (with_more staged line) (with_line begun line) x.1.0 is_open.0 (ap (λ (t : Option (List ℕ)). more_kept t line) is_open.1 ∙ kept_more begun.document line) x.1.2))
       by (Some staged) (Some more) (Some begun) is_open turns x =
           none_more rest (Some more) now after text reply s.done (Some (with_line begun line))
-          (subst (λ (m : Staged). Asks begun.line m.console (request_word word.Stage) × (m.text ≡ kept (document_text (begun.document ++ line ∷ [])))) (sym x.1)
+          (subst (λ (m : Staged). Asks begun.line m.console (stage_word) × (m.text ≡ kept (document_text (begun.document ++ line ∷ [])))) (sym x.1)
             (is_open.0, ap (λ (t : Option (List ℕ)). more_kept t line) is_open.1 ∙ kept_more begun.document line))
           (turns ∙ ap (λ (ts : List Turn). s.done ++ ts) (rw (x.0) refl)) s.answered x.2 x.3
       by None next (Some begun) is_open turns x = absurd is_open

@@ -16,6 +16,7 @@ use Rattle.room_words.specs.declared.fault.Fault.{Fault}
 use Rattle.room_words.specs.declared.fault.Fault.TheVariants as fault
 use Rattle.room_words.specs.declared.reply.Reply.{Reply}
 use Rattle.room_words.specs.declared.reply.Reply.TheVariants as reply
+use Rattle.room_words.specs.declared.stage_fault.StageFault.{StageFault}
 use Rattle.script.specs.Lines.{Asks, NamesNoConsole, behind_console}
 use Rattle.script.specs.Rehearsal.{RehearsalState, seen_past, staged_by, with_staged}
 use Rattle.script.specs.Turns.{Turn, document_text}
@@ -56,7 +57,7 @@ abbrev pub Stages : RehearsalState → ℕ → List ℕ → List ℕ → Rehears
 Stages before console document text after =
     ((d : Changes) × IsDocument document d × (text ≡ reply_text (reply.Staged (length d.pre) (length d.rev) (length d.fwd)))
         × (after ≡ with_staged before console (Some d)))
-    ⊎ ((bad : _) × IsFault document bad × Tells before (reply.Fault (fault.Stage bad)) text after)
+    ⊎ ((bad : StageFault) × IsFault document bad × Tells before (reply.Fault (fault.Stage bad)) text after)
 
 -- what is staged after a cutover: a difference that was accepted is spent
 abbrev pub staged_after : CoreReply → RehearsalState → ℕ → List (Option Changes)

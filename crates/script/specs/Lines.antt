@@ -8,10 +8,14 @@ use Rattle.desk.specs.Consoles.{IsConsole}
 abbrev pub behind_console : ℕ → List ℕ → List ℕ
 behind_console console text = codes "c" ++ decimal console ++ codes " " ++ text
 
+-- the word by which a console stages a document
+abbrev pub stage_word : List ℕ
+stage_word = codes "stage"
+
 -- a line that is not too long asks something of a console
 pub record Asks (line : List ℕ) (console : ℕ) (request : List ℕ) : Type 0 where
   pub fits : length line ≤ line_limit
-  pub console : IsConsole console
+  pub is_console : IsConsole console
   pub layout : line ≡ behind_console console request
 
 -- a line that is not too long names no console

@@ -1,6 +1,6 @@
 //! The history that a script leaves, told after its replies.
 
-ghost use Rattle.std.specs.Prelude.{◌≡◌, ◌++◌, ◌∷◌, List, ℕ, codes, IfErr, OnOk};
+ghost use Rattle.std.specs.Prelude.{◌≡◌, ◌++◌, ◌∷◌, [], List, ℕ, codes, IfErr, OnOk};
 ghost use Rattle.std.specs.Fmt.{decimal};
 ghost use Rattle.cim_words.specs.Written.{line_feed};
 ghost use Rattle.script.specs.Sending.{Sends, StopsAt, output};

@@ -13,7 +13,9 @@ use cim_words::NoMemory;
 use nt_text::LINE_LIMIT;
 use room_words::{Fault, Reply};
 use std::sync::ledger::Ledger;
-use wire::{Request, read_request, write_reply};
+use wire::{
+    Request, a_stage_is_one_word, read_request, requests_have_one_reading, write_reply,
+};
 
 impl<L: Ledger> Rehearsal<L> {
     /// Takes the next line, which may stand within a document.
@@ -63,6 +65,8 @@ impl<L: Ledger> Rehearsal<L> {
         requires { IsConsole console }
         ensures { IfOk result (λ next. (text : List ℕ) × (into.new.items ≡ into.old.items ++ text) × Hears self.old console request.now text self.new next) }
     {
+        a_stage_is_one_word();
+        requests_have_one_reading();
         match read_request(request, true) {
             Ok(Request::Stage) => Ok(Some(Staging::of(self.alloc, console))),
             Ok(request) => {
