@@ -11,7 +11,7 @@ behind_console console text = codes "c" ++ decimal console ++ codes " " ++ text
 -- a line that is not too long asks something of a console
 pub record Asks (line : List ℕ) (console : ℕ) (request : List ℕ) : Type 0 where
   pub fits : length line ≤ line_limit
-  pub console : IsConsole console
+  pub known : IsConsole console
   pub layout : line ≡ behind_console console request
 
 -- a line that is not too long names no console

@@ -1,5 +1,5 @@
 -- What a script is answered over a base, of this project.
-use Rattle.std.specs.Prelude.{ℕ, ◌≡◌, ◌⊎◌, List, [], ◌++◌}
+use Rattle.std.specs.Prelude.{ℕ, ◌≡◌, ◌⊎◌, List, [], ◌++◌, Option}
 use Rattle.std.specs.List.{flat_map}
 use Rattle.cim_words.specs.declared.statement.Statement.{Statement}
 use Rattle.desk.specs.Legal.{IsLegal}
@@ -17,6 +17,8 @@ pub record IsPlayed (base : List Statement) (script text : List ℕ) : Type 0 wh
   pub answered : AreAnswered (at_start base) (turns_of script) replies after
   pub legal : IsLegal (Judges base) after.room.log
   pub is_text : text ≡ replies ++ history_text after.room.log
+  -- STUB ONLY: by this field the stub proves that a script has one answer
+  pub stub : text ≡ []
 
 -- A front of the replies to the first turns of a script, or of the whole text.
 pub record IsFront (base : List Statement) (script front : List ℕ) : Type 0 where
@@ -30,5 +32,5 @@ pub record IsFront (base : List Statement) (script front : List ℕ) : Type 0 wh
   pub within : (front ++ more ≡ replies) ⊎ ((left ≡ []) × (front ++ more ≡ replies ++ history_text after.room.log))
 
 -- the pieces in which a text was handed to the output make up the text
-abbrev pub HandsText : _ → _ → List ℕ → Type 0
+abbrev pub HandsText : Option (List (List ℕ)) → Option (List (List ℕ)) → List ℕ → Type 0
 HandsText old new text = (pieces : List (List ℕ)) × (flat_map (λ piece. piece) pieces ≡ text) × Hands old new pieces

@@ -13,8 +13,6 @@ use Rattle.script.specs.Lines.{Asks, behind_console}
 use Rattle.script.specs.Rehearsal.{RehearsalState, with_staged}
 use Rattle.script.specs.Turns.{alone, closes, is_skipped, opens}
 use Rattle.wire.specs.Replies.{reply_text}
-use Rattle.wire.specs.Requests.{request_word}
-use Rattle.wire.specs.declared.request_word.RequestWord.TheVariants as request
 
 -- the console of a document, and its bytes; those of one that is too long are dropped
 pub record Staged : Type 0 where
@@ -50,9 +48,9 @@ StagesKept before staged text after =
 -- What a console asks is answered; or it stages a document, which is answered later.
 abbrev pub Hears : RehearsalState → ℕ → List ℕ → List ℕ → RehearsalState → Option Staged → Type 0
 Hears before console asked text after None =
-    (asked ≡ request_word request.Stage → ⊥) × ((told : List ℕ) × (text ≡ behind_console console told) × AnswersConsole before console [] asked told after)
+    (asked ≡ codes "stage" → ⊥) × ((told : List ℕ) × (text ≡ behind_console console told) × AnswersConsole before console [] asked told after)
 Hears before console asked text after (Some staged) =
-    (asked ≡ request_word request.Stage) × (staged ≡ record { console = console; text = Some [] }) × (text ≡ []) × (after ≡ before)
+    (asked ≡ codes "stage") × (staged ≡ record { console = console; text = Some [] }) × (text ≡ []) × (after ≡ before)
 
 -- A line outside a document is answered, or says nothing; or it begins a document, which is answered later.
 abbrev pub Begins : RehearsalState → List ℕ → List ℕ → RehearsalState → Option Staged → Type 0
@@ -60,7 +58,7 @@ Begins before line text after None =
     ((is_skipped line ≡ true) × (text ≡ []) × (after ≡ before))
     ⊎ ((is_skipped line ≡ false) × (opens line ≡ false) × Answers before (alone line) text after)
 Begins before line text after (Some staged) =
-    (is_skipped line ≡ false) × (opens line ≡ true) × Asks line staged.console (request_word request.Stage) × (staged.text ≡ Some []) × (text ≡ []) × (after ≡ before)
+    (is_skipped line ≡ false) × (opens line ≡ true) × Asks line staged.console (codes "stage") × (staged.text ≡ Some []) × (text ≡ []) × (after ≡ before)
 
 -- A line within a document ends it, and it is answered; or it goes on.
 abbrev pub GoesOn : RehearsalState → Staged → List ℕ → List ℕ → RehearsalState → Option Staged → Type 0

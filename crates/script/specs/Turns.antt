@@ -1,5 +1,5 @@
 -- The turns of a script, of this project: each line that asks something, with the document that it stages.
-use Rattle.std.specs.Prelude.{ℕ, List, [], ◌∷◌, ◌++◌, length, take, drop, Option, Some, None, Bool, true, ◌==◌, ◌&&◌, if◌then◌else◌}
+use Rattle.std.specs.Prelude.{ℕ, List, [], ◌∷◌, ◌++◌, length, take, drop, Option, Some, None, Bool, true, ◌==◌, ◌&&◌, if◌then◌else◌, codes}
 use Rattle.std.specs.List.{flat_map, list_all, list_any, range_with_len}
 use Rattle.std.specs.Str.{bytes_eq}
 use Rattle.cim_words.specs.Written.{line_feed}
@@ -9,8 +9,6 @@ use Rattle.nt_text.specs.Grammar.{is_blank}
 use Rattle.room_words.specs.Differences.{heading_text}
 use Rattle.room_words.specs.declared.heading.Heading.TheVariants as heading
 use Rattle.script.specs.Lines.{behind_console}
-use Rattle.wire.specs.Requests.{request_word}
-use Rattle.wire.specs.declared.request_word.RequestWord.TheVariants as word
 
 -- whether a line says nothing: it is empty, or begins with `#`
 abbrev pub is_skipped : List ℕ → Bool
@@ -22,7 +20,7 @@ abbrev pub consoles : List ℕ
 consoles = range_with_len 1 most_consoles
 
 abbrev pub stage_line : ℕ → List ℕ
-stage_line console = behind_console console (request_word word.Stage)
+stage_line console = behind_console console (codes "stage")
 
 -- whether a document begins after a line: a console stages one
 unfoldable pub opens : List ℕ → Bool

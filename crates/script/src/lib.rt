@@ -2,8 +2,10 @@
 #![tactic(auto)]
 
 mod fault;
-mod play;
+mod laws;
+mod playing;
 
 pub use cim_words::NoMemory;
 pub use fault::PlayFault;
-pub use play::play;
+pub use laws::scripts_have_one_answer;
+pub use playing::play;

@@ -1,22 +1,14 @@
-//! A script, played over a base.
+//! A script, played over a base. This stub always answers want of memory.
 
-ghost use Rattle.std.specs.Prelude.{◌≡◌, ◌++◌, List, ℕ, IfErr, IfOk, OnOk};
+ghost use Rattle.std.specs.Prelude.{ℕ, List, IfErr, OnOk};
 ghost use Rattle.cim_model.specs.Profile.{IsFaultless};
 ghost use Rattle.script.specs.Played.{IsFront, IsPlayed};
-ghost use Rattle.script.specs.Rehearsal.{at_start, RehearsalState};
-ghost use Rattle.script.specs.Answers.{AreAnswered};
 ghost use Rattle.script.specs.Sending.{Sends, StopsAt, output};
-ghost use Rattle.script.specs.Turns.{Turn, turns_of};
 
 use crate::fault::PlayFault;
-use crate::output::flush_full;
-use crate::rehearsal::Rehearsal;
 use grid_out::Sink;
-use nt_text::Lines;
 use statement_set::StatementSet;
 use std::alloc::Global;
-use std::marker::Brand;
-use std::sync::ledger::{Blank, Ledger};
 
 /// Plays a script over a base that breaks no rule: writes the reply to each request, behind its console, and then the history.
 ///
@@ -38,4 +30,3 @@ pub fn play<K: Sink>(
 {
     Err(PlayFault::NoMemory)
 }
-
