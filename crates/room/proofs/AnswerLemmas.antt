@@ -1,16 +1,16 @@
 -- From what is known of the files that were read to the answer.
-use Rattle.std.proofs.Common.{◌≡◌, ◌≢◌, ◌⊎◌, ℕ, ◌<◌, ◌≤◌, inl, inr, List, [], ◌∷◌, length, Option, Some, None, Result, Ok, Err, IfOk, IfSome, IfErr, IsTrue, true, false, refl, sym, ap, subst, ◌∙◌}
+use Rattle.std.proofs.Common.{◌≡◌, ◌≢◌, ◌⊎◌, ℕ, inl, inr, List, [], ◌∷◌, Option, Some, None, Result, Ok, Err, IfOk, IfSome, IfErr, IsErrAnd, IsTrue, ap, refl, sym, subst}
 use Rattle.cim_words.specs.declared.statement.Statement.{Statement}
+use Rattle.grid_out.specs.Shelf.{AsksFor}
 use Rattle.grid_out.specs.Sink.{Gains, Hands}
-use Rattle.script.specs.Played.{IsFront, IsPlayed}
-use Rattle.script.specs.Sending.{OutputState, Sends, StopsAt}
-use Rattle.script.specs.declared.fault.PlayFault.{PlayFault}
-use Rattle.script.specs.declared.fault.PlayFault.TheVariants as play
+use Rattle.grid_out.proofs.NoteLaws.{grows_nothing}
+use Rattle.grid_out.proofs.SinkLaws.{gains_nothing}
+use Rattle.script.specs.Sending.{OutputState}
 use Rattle.room.specs.Base.{IsBase, RefusesBase}
 use Rattle.room.specs.Ending.{IsSaid, IsTask, IsTold, IsUntold, ending}
-use Rattle.room.specs.Files.{AreContents, NoneIsLong, OneIsLong, RefusesFiles}
+use Rattle.room.specs.Files.{AreContents, RefusesFiles}
 use Rattle.room.specs.Refusal.{IfRefusal}
-use Rattle.room.specs.Run.{AreNames, Asks, Explains, GainsAtMost, HandsTask, IsFrontOf, Reads, Tells, Writes, ends_early, is_read_fault, pieces_of}
+use Rattle.room.specs.Run.{AreNames, Asks, Explains, GainsAtMost, HandsTask, Reads, ends_early, pieces_of}
 use Rattle.room.specs.Status.{line_of, status_of}
 use Rattle.room.specs.declared.refusal.BaseRefusal.{BaseRefusal}
 use Rattle.room.specs.declared.refusal.BaseRefusal.TheVariants as base
@@ -25,32 +25,12 @@ use Rattle.room.specs.declared.task.Task.{Task}
 use Rattle.room.specs.declared.task.Task.TheVariants as task
 use Rattle.room.proofs.FileLemmas.{read_short}
 
--- ---- what a command writes
-
--- a text that is written at once is what its task tells
-pub told_at_once : (asked : Task) (set : List Statement) (contents : List (List ℕ)) (text : List ℕ) (s : Status) (before after : OutputState) → Tells asked set contents text
-    → IsFrontOf asked set contents text → HandsTask asked before.handed after.handed text
-    → ((s ≡ status.Ok) × Writes status.Ok before.written after.written before.faults after.faults text)
-    ⊎ ((s ≡ status.WriteFault) × Writes status.WriteFault before.written after.written before.faults after.faults text) → IsTask asked set contents s before after
-told_at_once asked set contents text s before after tells front hands (inl (is, writes)) =
-    let P : Status → Type 0 = λ t. IsTask asked set contents t before after in
-    subst P (sym is) (text, tells, writes, hands)
-told_at_once asked set contents text s before after tells front hands (inr (is, writes)) =
-    let P : Status → Type 0 = λ t. IsTask asked set contents t before after in
-    subst P (sym is) (text, front, writes, hands)
-
--- a script that was played is what its task tells, to its end or not
-pub played : (set : List Statement) (script : List ℕ) (before after : OutputState) → (text : List ℕ) × IsPlayed set script text × Sends before after text
-    → IsTask task.Play set (script ∷ []) status.Ok before after
-played set script before after (text, is, sends) = (text, is, (sends.gains, sends.faults), sends.hands)
-
-pub broke : (set : List Statement) (script : List ℕ) (before after : OutputState) → (text : List ℕ) × IsFront set script text × StopsAt play.WriteFault before after text
-    → IsTask task.Play set (script ∷ []) status.WriteFault before after
-broke set script before after (text, is, breaks) = (text, is, record { front = breaks.gains; fault = breaks.fault }, breaks.hands)
-
-pub ended : (set : List Statement) (script : List ℕ) (before after : OutputState) → (text : List ℕ) × IsFront set script text × StopsAt play.NoMemory before after text
-    → IsTask task.Play set (script ∷ []) status.NoMemory before after
-ended set script before after (text, is, sends) = (text, (refl, is), (sends.gains, sends.faults), sends.hands)
+-- a task over a set of a base is a task over its bytes
+pub over_base : (bytes : List ℕ) (asked same : Task) (contents : List (List ℕ)) (set : List Statement) (s : Status) (before after : OutputState) → asked ≡ same → IsBase bytes set
+    → IsTask same set contents s before after → IsTold bytes asked contents s before after
+over_base bytes asked same contents set s before after is base tells =
+    let P : Task → Type 0 = λ t. IsTold bytes t contents s before after in
+    subst P (sym is) (set, base, tells)
 
 -- ---- from bytes to words
 
@@ -64,7 +44,7 @@ pub record WereRead (content : List ℕ → Option (List ℕ)) (words : List (Li
   pub base : IfSome (content asks.name) (λ b. bytes ≡ b)
   pub further : AreContents content asks.more contents
 
-reads_of : (content : List ℕ → Option (List ℕ)) (words : List (List ℕ)) (asks : Asks words) (bytes : List ℕ) (contents : List (List ℕ)) (set : List Statement)
+abbrev reads_of : (content : List ℕ → Option (List ℕ)) (words : List (List ℕ)) (asks : Asks words) (bytes : List ℕ) (contents : List (List ℕ)) (set : List Statement)
     → WereRead content words asks bytes contents → IsBase bytes set → Reads content words
 reads_of content words asks bytes contents set were is =
     record { asks = asks; contents = contents; further = were.further; set = set; of_base = told_of (λ b. IsBase b set) (content asks.name) bytes were.base is }
@@ -72,11 +52,11 @@ reads_of content words asks bytes contents set were is =
 -- what a task tells of the bytes answers the command
 says : (content : List ℕ → Option (List ℕ)) (words : List (List ℕ)) (asks : Asks words) (bytes : List ℕ) (contents : List (List ℕ)) (s : Status) (before after : OutputState)
     → WereRead content words asks bytes contents → IsTold bytes asks.asked contents s before after → IsSaid content words s before after
-says content words asks bytes contents status.Ok before after were (set, is, text, tells, writes, hands) =
+says content words asks bytes contents status.Ok before after were (set, is, (text, tells, writes, hands)) =
     (text, (reads_of content words asks bytes contents set were is, tells), writes, (asks, hands))
-says content words asks bytes contents status.WriteFault before after were (set, is, text, front, writes, hands) =
+says content words asks bytes contents status.WriteFault before after were (set, is, (text, front, writes, hands)) =
     (text, (reads_of content words asks bytes contents set were is, front), writes, (asks, hands))
-says content words asks bytes contents status.NoMemory before after were (set, is, text, (play_is, front), writes, hands) =
+says content words asks bytes contents status.NoMemory before after were (set, is, (text, (play_is, front), writes, hands)) =
     let P : Task → Type 0 = λ asked. HandsTask asked before.handed after.handed text in
     (text, inr (reads_of content words asks bytes contents set were is, play_is, front), writes, inr (asks, play_is, subst P play_is hands))
 says content words asks bytes contents status.Usage before after were tells = absurd tells.2.1
@@ -120,44 +100,15 @@ pub unread : (f : Failure Refusal) (content : List ℕ → Option (List ℕ)) (w
 unread (failure.Refusal why) content words asks refuses = unread_by why content words asks refuses
 unread failure.NoMemory content words asks refuses = tt
 
--- ---- faults of reading, and names
+-- an error that is handed on
+pub handed_on : (r : Result Status (Failure Refusal)) (f : Failure Refusal) → IsErrAnd r (λ e. e ≡ f) → r ≡ Err f
+handed_on (Ok s) f is = absurd is
+handed_on (Err e) f is = ap Err is
 
--- a task over bytes fails by no fault of reading
-no_fault_of : (s : Status) (bytes : List ℕ) (asked : Task) (contents : List (List ℕ)) (before after : OutputState) → IsTold bytes asked contents s before after → is_read_fault s ≡ false
-no_fault_of status.Ok bytes asked contents before after tells = refl
-no_fault_of status.WriteFault bytes asked contents before after tells = refl
-no_fault_of status.NoMemory bytes asked contents before after tells = refl
-no_fault_of status.Usage bytes asked contents before after tells = refl
-no_fault_of status.ReadFault bytes asked contents before after tells = absurd tells.2.1
-no_fault_of status.Limit bytes asked contents before after tells = refl
-no_fault_of (status.Document line why) bytes asked contents before after tells = refl
-no_fault_of (status.Profile rule subject) bytes asked contents before after tells = refl
-no_fault_of status.Asked bytes asked contents before after tells = refl
-
-pub not_read_fault : (why : Refusal) → why ≢ refusal.ReadFault → is_read_fault (status_of why) ≡ false
-not_read_fault refusal.Usage not = refl
-not_read_fault refusal.ReadFault not = absurd (not refl)
-not_read_fault (refusal.Base base.Limit) not = refl
-not_read_fault (refusal.Base (base.Document line why)) not = refl
-not_read_fault (refusal.Base (base.Profile rule subject)) not = refl
-not_read_fault (refusal.Task of_task.Asked) not = refl
-
-no_fault_by : (why : Refusal) (bytes : List ℕ) (asked : Task) → IsUntold bytes asked why → is_read_fault (status_of why) ≡ false
-no_fault_by refusal.Usage bytes asked refuses = absurd refuses
-no_fault_by refusal.ReadFault bytes asked refuses = absurd refuses
-no_fault_by (refusal.Base base.Limit) bytes asked refuses = refl
-no_fault_by (refusal.Base (base.Document line why)) bytes asked refuses = refl
-no_fault_by (refusal.Base (base.Profile rule subject)) bytes asked refuses = refl
-no_fault_by (refusal.Task of_task.Asked) bytes asked refuses = refl
-
-pub no_fault : (r : Result Status (Failure Refusal)) (bytes : List ℕ) (asked : Task) (contents : List (List ℕ)) (before after : OutputState)
-    → IfOk r (λ s. IsTold bytes asked contents s before after) → IfErr r (λ f. IfRefusal f (IsUntold bytes asked)) → is_read_fault (ending r) ≡ false
-no_fault (Ok s) bytes asked contents before after tells refuses = no_fault_of s bytes asked contents before after tells
-no_fault (Err (failure.Refusal why)) bytes asked contents before after tells refuses = no_fault_by why bytes asked refuses
-no_fault (Err failure.NoMemory) bytes asked contents before after tells refuses = refl
+-- ---- names
 
 -- where files were not read, no more of them need have been asked for
-pub stopped : (f : Failure Refusal) (content : List ℕ → Option (List ℕ)) (names : List (List ℕ)) → IfRefusal f (RefusesFiles content names) → IsTrue (ends_early (ending (Err f)))
+stopped : (f : Failure Refusal) (content : List ℕ → Option (List ℕ)) (names : List (List ℕ)) → IfRefusal f (RefusesFiles content names) → IsTrue (ends_early (ending (Err f)))
 stopped (failure.Refusal refusal.ReadFault) content names refuses = refl
 stopped (failure.Refusal (refusal.Base base.Limit)) content names refuses = refl
 stopped (failure.Refusal (refusal.Base (base.Document line why))) content names refuses = absurd refuses
@@ -165,6 +116,12 @@ stopped (failure.Refusal (refusal.Base (base.Profile rule subject))) content nam
 stopped (failure.Refusal (refusal.Task why)) content names refuses = absurd refuses
 stopped (failure.Refusal refusal.Usage) content names refuses = absurd refuses
 stopped failure.NoMemory content names refuses = refl
+
+pub names_stopped : (f : Failure Refusal) (content : List ℕ → Option (List ℕ)) (words : List (List ℕ)) (asks : Asks words) (old new : Option (List (List ℕ)))
+    → IfRefusal f (RefusesFiles content (asks.name ∷ asks.more)) → AsksFor old new (asks.name ∷ asks.more) ⊎ AsksFor old new (asks.name ∷ [])
+    → (names : List (List ℕ)) × AreNames words (ending (Err f)) names × AsksFor old new names
+names_stopped f content words asks old new refuses (inl all) = (_, inr (asks, inl refl), all)
+names_stopped f content words asks old new refuses (inr first) = (_, inr (asks, inr (stopped f content (asks.name ∷ asks.more) refuses, refl)), first)
 
 -- ---- what is said in the end
 
@@ -199,11 +156,11 @@ said_refusal content words before after why s explains (inr (is, readable, gains
     let Q : Status → Type 0 = λ t. IsSaid content words t before after in
     subst Q (sym is) ([], inl refl, (gains, kept), inl (refl, subst P is hands))
 
--- a refusal's status, or want of memory in its place, tells of a fault of reading, and of names
-pub one_fault : (why : Refusal) (s : Status) (before after : OutputState) → LineWrites why s before after → is_read_fault s ≡ is_read_fault (status_of why)
-one_fault why s before after (inl (is, gains)) = ap is_read_fault is
-one_fault why s before after (inr (is, readable, gains, kept)) = ap is_read_fault is ∙ sym (not_read_fault why readable)
+-- nothing is said where memory ended
+pub said_nothing : (content : List ℕ → Option (List ℕ)) (words : List (List ℕ)) (before : OutputState) → IsSaid content words status.NoMemory before before
+said_nothing content words before = ([], inl refl, (gains_nothing _, refl), inl (refl, grows_nothing _))
 
+-- the names are those of a refusal's status, also where memory ended as it was told
 names_then : (words : List (List ℕ)) (t : Status) (names : List (List ℕ)) → AreNames words t names → AreNames words status.NoMemory names
 names_then words t names (inl none) = inl none
 names_then words t names (inr (asks, inl all)) = inr (asks, inl all)

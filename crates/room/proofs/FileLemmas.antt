@@ -28,7 +28,7 @@ pub told_contents : (told : List ℕ → Option (List ℕ)) (names : List (List 
 told_contents told [] tells = ([], tt)
 told_contents told (name ∷ names) tells =
     let rest = told_contents told names tells.1 in
-    (tells.0.0 ∷ rest.0, tells.0.1, rest.1)
+    (tells.0.0 ∷ rest.0, (tells.0.1, rest.1))
 
 pub one_list : (told : List ℕ → Option (List ℕ)) (names a b : List (List ℕ)) → AreTold told names a → AreTold told names b → a ≡ b
 one_list told [] [] [] p q = refl

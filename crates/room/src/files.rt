@@ -1,6 +1,6 @@
 //! The files that the words name, as they are read.
 
-ghost use Rattle.std.specs.Prelude.{◌≡◌, ◌≤◌, ◌⊎◌, ℕ, List, [], ◌∷◌, length, option_map, option_to_list, IfOk, IfErr, IfSome, IsErr};
+ghost use Rattle.std.specs.Prelude.{◌≡◌, ◌≤◌, ◌⊎◌, ℕ, List, [], ◌∷◌, length, option_map, option_to_list, IfOk, IfErr, IfSome, OnOk, OnErr};
 ghost use Rattle.grid_out.specs.Faults.{CountsFaults};
 ghost use Rattle.grid_out.specs.Shelf.{AsksFor};
 ghost use Rattle.room.specs.Base.{base_limit};
@@ -36,8 +36,9 @@ pub(crate) fn read_files<F: Shelf>(
     ensures script { IfOk result (λ contents. AreContents (F.content shelf.old) (option_to_list (option_map (λ s. s.now) asked.entry.script)) (option_to_list (option_map (λ v. v.items) contents.script))) }
     ensures refused { IfErr result (λ failure. IfRefusal failure (RefusesFiles (F.content shelf.old) (asked.entry.base.now ∷ option_to_list (option_map (λ s. s.now) asked.entry.script)))) }
     ensures cause { CountsFaults (F.faults shelf.old) (F.faults shelf.new) (is_failed_read result) }
-    ensures asks { AsksFor (F.asked shelf.old) (F.asked shelf.new) (asked.entry.base.now ∷ option_to_list (option_map (λ s. s.now) asked.entry.script))
-        ⊎ (IsErr result × AsksFor (F.asked shelf.old) (F.asked shelf.new) (asked.entry.base.now ∷ [])) }
+    ensures asks { OnOk result (AsksFor (F.asked shelf.old) (F.asked shelf.new) (asked.entry.base.now ∷ option_to_list (option_map (λ s. s.now) asked.entry.script))) }
+    ensures asks_err { OnErr result (AsksFor (F.asked shelf.old) (F.asked shelf.new) (asked.entry.base.now ∷ option_to_list (option_map (λ s. s.now) asked.entry.script))
+        ⊎ AsksFor (F.asked shelf.old) (F.asked shelf.new) (asked.entry.base.now ∷ [])) }
     ensures kept { (name : List ℕ) → F.content shelf.new name ≡ F.content shelf.old name }
 {
     let base = read_file(alloc, asked.base, shelf)?;
