@@ -7,12 +7,11 @@ use Rattle.grid_out.proofs.NoteLaws.{grows_nothing}
 use Rattle.grid_out.proofs.SinkLaws.{gains_nothing}
 use Rattle.script.specs.Sending.{OutputState}
 use Rattle.room.specs.Base.{IsBase, RefusesBase}
-use Rattle.room.specs.Ending.{IsSaid, IsTask, IsTold, IsUntold, ending}
+use Rattle.room.specs.Ending.{IsSaid, IsDone, IsTold, IsUntold, ending}
 use Rattle.room.specs.Files.{AreContents, RefusesFiles}
 use Rattle.room.specs.Refusal.{IfRefusal}
 use Rattle.room.specs.Run.{AreNames, Asks, Explains, GainsAtMost, HandsTask, Reads, ends_early, pieces_of}
 use Rattle.room.specs.Status.{line_of, status_of}
-use Rattle.room.specs.declared.refusal.BaseRefusal.{BaseRefusal}
 use Rattle.room.specs.declared.refusal.BaseRefusal.TheVariants as base
 use Rattle.room.specs.declared.refusal.Failure.{Failure}
 use Rattle.room.specs.declared.refusal.Failure.TheVariants as failure
@@ -22,12 +21,11 @@ use Rattle.room.specs.declared.refusal.TaskRefusal.TheVariants as of_task
 use Rattle.room.specs.declared.status.Status.{Status}
 use Rattle.room.specs.declared.status.Status.TheVariants as status
 use Rattle.room.specs.declared.task.Task.{Task}
-use Rattle.room.specs.declared.task.Task.TheVariants as task
 use Rattle.room.proofs.FileLemmas.{read_short}
 
 -- a task over a set of a base is a task over its bytes
 pub over_base : (bytes : List ℕ) (asked same : Task) (contents : List (List ℕ)) (set : List Statement) (s : Status) (before after : OutputState) → asked ≡ same → IsBase bytes set
-    → IsTask same set contents s before after → IsTold bytes asked contents s before after
+    → IsDone same set contents s before after → IsTold bytes asked contents s before after
 over_base bytes asked same contents set s before after is base tells =
     let P : Task → Type 0 = λ t. IsTold bytes t contents s before after in
     subst P (sym is) (set, base, tells)
@@ -156,9 +154,13 @@ said_refusal content words before after why s explains (inr (is, readable, gains
     let Q : Status → Type 0 = λ t. IsSaid content words t before after in
     subst Q (sym is) ([], inl refl, (gains, kept), inl (refl, subst P is hands))
 
--- nothing is said where memory ended
-pub said_nothing : (content : List ℕ → Option (List ℕ)) (words : List (List ℕ)) (before : OutputState) → IsSaid content words status.NoMemory before before
-said_nothing content words before = ([], inl refl, (gains_nothing _, refl), inl (refl, grows_nothing _))
+-- what is said goes on from an output that nothing was written to; and nothing is said where memory ended
+pub said_from : (content : List ℕ → Option (List ℕ)) (words : List (List ℕ)) (s : Status) (before between after : OutputState) → between ≡ before → IsSaid content words s between after
+    → IsSaid content words s before after
+said_from content words s before between after is = subst (λ (o : OutputState). IsSaid content words s o after) is
+
+pub said_nothing : (content : List ℕ → Option (List ℕ)) (words : List (List ℕ)) (before after : OutputState) → after ≡ before → IsSaid content words status.NoMemory before after
+said_nothing content words before after is = subst (λ (o : OutputState). IsSaid content words status.NoMemory o after) is ([], inl refl, (gains_nothing _, refl), inl (refl, grows_nothing _))
 
 -- the names are those of a refusal's status, also where memory ended as it was told
 names_then : (words : List (List ℕ)) (t : Status) (names : List (List ℕ)) → AreNames words t names → AreNames words status.NoMemory names

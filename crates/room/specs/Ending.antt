@@ -22,13 +22,13 @@ TellsWith status.NoMemory asked set contents text = (asked ≡ task.Play) × IsF
 TellsWith _ asked set contents text = ⊥
 
 -- a task's text over a set went to the output
-abbrev pub IsTask : Task → List Statement → List (List ℕ) → Status → OutputState → OutputState → Type 0
-IsTask asked set contents ends before after = (text : List ℕ) × TellsWith ends asked set contents text
+abbrev pub IsDone : Task → List Statement → List (List ℕ) → Status → OutputState → OutputState → Type 0
+IsDone asked set contents ends before after = (text : List ℕ) × TellsWith ends asked set contents text
     × Writes ends before.written after.written before.faults after.faults text × HandsTask asked before.handed after.handed text
 
 -- the same over a base from its bytes; and why a task tells nothing of these
 abbrev pub IsTold : List ℕ → Task → List (List ℕ) → Status → OutputState → OutputState → Type 0
-IsTold bytes asked contents ends before after = (set : List Statement) × IsBase bytes set × IsTask asked set contents ends before after
+IsTold bytes asked contents ends before after = (set : List Statement) × IsBase bytes set × IsDone asked set contents ends before after
 
 abbrev pub IsUntold : List ℕ → Task → Refusal → Type 0
 IsUntold bytes asked (refusal.Base why) = RefusesBase bytes why

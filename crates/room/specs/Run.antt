@@ -1,5 +1,5 @@
 -- What the program answers: a status and a text, by the words of its command and by what the shelf tells.
-use Rattle.std.specs.Prelude.{ℕ, ◌≡◌, ◌⊎◌, List, [], ◌∷◌, length, Option, Some, IfSome, Bool, true, false, IsTrue}
+use Rattle.std.specs.Prelude.{ℕ, ◌≡◌, ◌⊎◌, List, [], ◌∷◌, length, Option, IfSome, Bool, true, false, IsTrue}
 use Rattle.cim_model.specs.Links.{network}
 use Rattle.cim_model.specs.Network.{is_equipment}
 use Rattle.cim_model.specs.Reach.{IsReached}
@@ -67,10 +67,8 @@ Tells task.Play set contents text = ⊥
 
 -- a front of that, as it is handed to the output: of a script's answer any one, and else the whole
 abbrev pub IsFrontOf : Task → List Statement → List (List ℕ) → List ℕ → Type 0
-IsFrontOf task.Check set contents text = text ≡ check_text (length set)
-IsFrontOf (task.Trace source phases) set contents text = IsTraced set source.number phases text
 IsFrontOf task.Play set (script ∷ []) text = IsFront set script text
-IsFrontOf task.Play set contents text = ⊥
+IsFrontOf asked set contents text = Tells asked set contents text
 
 -- why a task tells nothing of a set: a trace begins at equipment
 abbrev pub RefusesTrace : List Statement → ℕ → TaskRefusal → Type 0

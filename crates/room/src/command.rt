@@ -70,12 +70,7 @@ fn script_words<'a>(command: &str, base: &'a str, script: &'a str) -> Option<Ask
     })
 }
 
-fn trace_words<'a>(
-    command: &str,
-    base: &'a str,
-    source: &str,
-    phases: &str,
-) -> Option<Asked<'a>>
+fn trace_words<'a>(command: &str, base: &'a str, source: &str, phases: &str) -> Option<Asked<'a>>
     ensures found { IfSome result (λ x. IsCommand (command.now ∷ base.now ∷ source.now ∷ phases.now ∷ []) x.base.now (option_to_list (option_map (λ s. s.now) x.script)) x.task) }
     ensures only { (name : List ℕ) (more : List (List ℕ)) (task : Task) → IsCommand (command.now ∷ base.now ∷ source.now ∷ phases.now ∷ []) name more task
         → IsSomeAnd result (λ x. (x.base.now ≡ name) × (option_to_list (option_map (λ s. s.now) x.script) ≡ more) × (x.task ≡ task)) }

@@ -1,7 +1,7 @@
 //! The command `check BASE`.
 
 ghost use Rattle.std.specs.Prelude.{◌≡◌, ℕ, List, IfOk, OnErr};
-ghost use Rattle.room.specs.Ending.{IsTask};
+ghost use Rattle.room.specs.Ending.{IsDone};
 ghost use Rattle.room.specs.declared.task.Task.TheVariants.{Check};
 ghost use Rattle.script.specs.Sending.{output};
 
@@ -19,7 +19,7 @@ pub(crate) fn tell_check<K: Sink>(
     set: &StatementSet,
     out: &mut K,
 ) -> Result<Status, NoMemory>
-    ensures told { IfOk result (λ status. (contents : List (List ℕ)) → IsTask Check set.now contents status
+    ensures told { IfOk result (λ status. (contents : List (List ℕ)) → IsDone Check set.now contents status
         (output (K.written out.old) (K.faults out.old) (K.handed out.old)) (output (K.written out.new) (K.faults out.new) (K.handed out.new))) }
     ensures untouched { OnErr result (output (K.written out.new) (K.faults out.new) (K.handed out.new) ≡ output (K.written out.old) (K.faults out.old) (K.handed out.old)) }
 {

@@ -2,7 +2,7 @@
 
 ghost use Rattle.std.specs.Prelude.{[], ◌∷◌};
 ghost use Rattle.cim_model.specs.Profile.{IsFaultless};
-ghost use Rattle.room.specs.Ending.{IsTask};
+ghost use Rattle.room.specs.Ending.{IsDone};
 ghost use Rattle.room.specs.declared.task.Task.TheVariants.{Play};
 ghost use Rattle.script.specs.Sending.{output};
 
@@ -20,7 +20,7 @@ pub(crate) fn play_script<K: Sink>(
     out: &mut K,
 ) -> Status
     requires { IsFaultless set }
-    ensures { IsTask Play set (script.now ∷ []) result
+    ensures { IsDone Play set (script.now ∷ []) result
         (output (K.written out.old) (K.faults out.old) (K.handed out.old)) (output (K.written out.new) (K.faults out.new) (K.handed out.new)) }
 {
     match play(alloc, set, script, out) {

@@ -2,7 +2,7 @@
 
 ghost use Rattle.std.specs.Prelude.{◌≡◌, ℕ, List, IfOk, IfErr, OnErr};
 ghost use Rattle.cim_model.specs.Profile.{IsFaultless};
-ghost use Rattle.room.specs.Ending.{IsTask};
+ghost use Rattle.room.specs.Ending.{IsDone};
 ghost use Rattle.room.specs.Refusal.{IfRefusal};
 ghost use Rattle.room.specs.Run.{RefusesTrace};
 ghost use Rattle.room.specs.declared.task.Task.TheVariants.{Trace};
@@ -26,7 +26,7 @@ pub(crate) fn tell_trace<K: Sink>(
     out: &mut K,
 ) -> Result<Status, Failure<TaskRefusal>>
     requires { IsFaultless set.now }
-    ensures told { IfOk result (λ status. (contents : List (List ℕ)) → IsTask (Trace source phases) set.now contents status
+    ensures told { IfOk result (λ status. (contents : List (List ℕ)) → IsDone (Trace source phases) set.now contents status
         (output (K.written out.old) (K.faults out.old) (K.handed out.old)) (output (K.written out.new) (K.faults out.new) (K.handed out.new))) }
     ensures refused { IfErr result (λ failure. IfRefusal failure (RefusesTrace set.now source.number)) }
     ensures untouched { OnErr result (output (K.written out.new) (K.faults out.new) (K.handed out.new) ≡ output (K.written out.old) (K.faults out.old) (K.handed out.old)) }

@@ -1,19 +1,17 @@
-use Rattle.std.proofs.Common.{◌≡◌, map, string_bytes, subst, sym}
-use Rattle.script.specs.Sending.{OutputState, output}
-use Rattle.room.specs.Ending.{IsSaid}
-use Rattle.room.specs.declared.status.Status.TheVariants as status
-use Rattle.room.proofs.AnswerLemmas.{names_told, said_nothing, said_refusal}
+use Rattle.std.proofs.Common.{map, string_bytes}
+use Rattle.script.specs.Sending.{output}
+use Rattle.room.proofs.AnswerLemmas.{names_told, said_from, said_nothing, said_refusal}
 use Rattle.room.proofs.run.run_plain.Goals as goal
 
 pub returns-in-Err-Refusal-clause-says : goal.returns-in-Err-Refusal-clause-says
 returns-in-Err-Refusal-clause-says g c =
+    let content = g.F.Shelf.content c.args.shelf.now in
+    let words = map string_bytes c.args.words.now in
     let before = output (g.K.Sink.written c.args.out.now) (g.K.Sink.faults c.args.out.now) (g.K.Sink.handed c.args.out.now) in
     let between = output (g.K.Sink.written c.answer.new.out) (g.K.Sink.faults c.answer.new.out) (g.K.Sink.handed c.answer.new.out) in
     let after = output (g.K.Sink.written c.refuse.new.out) (g.K.Sink.faults c.refuse.new.out) (g.K.Sink.handed c.refuse.new.out) in
-    let P : OutputState → Type 0 = λ o. IsSaid (g.F.Shelf.content c.args.shelf.now) (map string_bytes c.args.words.now) c.refuse.result o after in
-    subst P c.in-Err-Refusal.ensures.untouched
-    (said_refusal (g.F.Shelf.content c.args.shelf.now) (map string_bytes c.args.words.now) between after c.in-Err-Refusal.refusal c.refuse.result
-        (rw c.in-Err-Refusal.field-0-is at c.in-Err-Refusal.ensures.refusal) c.refuse.ensures.writes c.refuse.ensures.hands)
+    said_from content words c.refuse.result before between after c.in-Err-Refusal.ensures.untouched
+    (said_refusal content words between after c.in-Err-Refusal.refusal c.refuse.result (rw c.in-Err-Refusal.field-0-is at c.in-Err-Refusal.ensures.refusal) c.refuse.ensures.writes c.refuse.ensures.hands)
 
 pub returns-in-Err-Refusal-clause-asks : goal.returns-in-Err-Refusal-clause-asks
 returns-in-Err-Refusal-clause-asks g c =
@@ -25,8 +23,8 @@ returns-in-Err-Refusal-clause-asks g c =
 pub returns-in-Err-NoMemory-clause-says : goal.returns-in-Err-NoMemory-clause-says
 returns-in-Err-NoMemory-clause-says g c =
     let before = output (g.K.Sink.written c.args.out.now) (g.K.Sink.faults c.args.out.now) (g.K.Sink.handed c.args.out.now) in
-    let P : OutputState → Type 0 = λ o. IsSaid (g.F.Shelf.content c.args.shelf.now) (map string_bytes c.args.words.now) status.NoMemory before o in
-    subst P (sym c.in-Err-NoMemory.ensures.untouched) (said_nothing (g.F.Shelf.content c.args.shelf.now) (map string_bytes c.args.words.now) before)
+    let between = output (g.K.Sink.written c.answer.new.out) (g.K.Sink.faults c.answer.new.out) (g.K.Sink.handed c.answer.new.out) in
+    said_nothing (g.F.Shelf.content c.args.shelf.now) (map string_bytes c.args.words.now) before between c.in-Err-NoMemory.ensures.untouched
 
 pub returns-in-Err-NoMemory-clause-asks : goal.returns-in-Err-NoMemory-clause-asks
 returns-in-Err-NoMemory-clause-asks g c = rw c.in-Err-NoMemory.field-0-is at c.in-Err-NoMemory.ensures.asks

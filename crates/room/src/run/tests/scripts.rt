@@ -13,7 +13,8 @@ use std::test::Fail;
 const SWITCHING: &str = "c1 open ~b1/c1 trace ~e1 ABC/c1 close ~b1/c1 trace ~e1 ABC/";
 
 /// What that is answered over the first base.
-const SWITCHED: &str = "c1 ok 1/c1 trace 1 2/~b1 ABC/~e1 ABC/c1 ok 2/c1 trace 2 4/~51 ABC/~b1 ABC/~c1 ABC/~e1 ABC/history 2/1 c1 1 open ~b1/2 c1 2 close ~b1/";
+const SWITCHED: &str =
+    "c1 ok 1/c1 trace 1 2/~b1 ABC/~e1 ABC/c1 ok 2/c1 trace 2 4/~51 ABC/~b1 ABC/~c1 ABC/~e1 ABC/history 2/1 c1 1 open ~b1/2 c1 2 close ~b1/";
 
 /// A shelf with the first base, a bad one, and the script, whose calls of the listed numbers fail.
 fn shelf(alloc: Global, failing: &[u64]) -> Result<MemShelf, NoMemory> {
@@ -50,7 +51,12 @@ const ANSWERS: &[(&str, Status, u8, &str)] = &[
     ("script base empty", Status::Ok, 0, "history 0/"),
     ("script empty empty", Status::Ok, 0, "history 0/"),
     ("script base other", Status::ReadFault, 1, "read fault/"),
-    ("script other switching", Status::ReadFault, 1, "read fault/"),
+    (
+        "script other switching",
+        Status::ReadFault,
+        1,
+        "read fault/",
+    ),
     ("script bad other", Status::ReadFault, 1, "read fault/"),
     ("script bad switching", BLANK_IN_1, 3, "document 1 Blank/"),
     ("script base", Status::Usage, 2, "usage/"),
