@@ -1,8 +1,9 @@
 -- The words of the command line, of this project.
-use Rattle.std.specs.Prelude.{ℕ, ◌≡◌, ◌≢◌, List, [], ◌∷◌, Some, codes, false}
+use Rattle.std.specs.Prelude.{ℕ, ◌≡◌, ◌≢◌, List, [], ◌∷◌, Some, codes, false, option_map, option_to_list}
 use Rattle.cim_words.specs.IdText.{plain_number}
 use Rattle.cim_words.specs.Phases.{phase_text, has_no_phase}
 use Rattle.cim_words.specs.declared.phases.PhaseSet.{PhaseSet}
+use Rattle.room.specs.declared.command.Asked.{Asked}
 use Rattle.room.specs.declared.task.Task.{Task}
 use Rattle.room.specs.declared.task.Task.TheVariants as task
 
@@ -35,3 +36,7 @@ abbrev pub IsCommand : List (List ℕ) → List ℕ → List (List ℕ) → Task
 IsCommand words name more task.Check = IsCheckCommand words name × (more ≡ [])
 IsCommand words name more (task.Trace source phases) = IsTraceCommand words name source.number phases × (more ≡ [])
 IsCommand words name more task.Play = (script : List ℕ) × IsScriptCommand words name script × (more ≡ script ∷ [])
+
+-- the names of the further files of what is asked for
+abbrev pub further_names : Asked → List (List ℕ)
+further_names asked = option_to_list (option_map (λ name. name.now) asked.script)

@@ -1,6 +1,7 @@
 -- What the shelf tells of the files that words name, of this project. None may be longer than a base.
-use Rattle.std.specs.Prelude.{ℕ, ◌≡◌, ◌≤◌, ◌<◌, ◌⊎◌, List, [], ◌∷◌, length, Option, Some, IfSome}
+use Rattle.std.specs.Prelude.{ℕ, ◌≡◌, ◌≤◌, ◌<◌, ◌⊎◌, List, [], ◌∷◌, length, Option, Some, IfSome, option_map, option_to_list}
 use Rattle.room.specs.Base.{base_limit}
+use Rattle.room.specs.declared.files.Contents.{Contents}
 use Rattle.room.specs.declared.refusal.BaseRefusal.TheVariants as base
 use Rattle.room.specs.declared.refusal.Refusal.{Refusal}
 use Rattle.room.specs.declared.refusal.Refusal.TheVariants as refusal
@@ -32,3 +33,7 @@ abbrev pub RefusesFiles : (List ℕ → Option (List ℕ)) → List (List ℕ) �
 RefusesFiles told names refusal.ReadFault = Unit {0}
 RefusesFiles told names (refusal.Base base.Limit) = OneIsLong told names
 RefusesFiles told names why = ⊥
+
+-- what the further files contain, as it was read
+abbrev pub further_contents : Contents → List (List ℕ)
+further_contents contents = option_to_list (option_map (λ bytes. bytes.items) contents.script)

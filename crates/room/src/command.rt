@@ -1,9 +1,9 @@
 //! The words of the command line.
 
-ghost use Rattle.std.specs.Prelude.{◌≡◌, ◌↔◌, ℕ, List, [], ◌∷◌, map, string_bytes, option_map, option_to_list, IsTrue, IfSome, IsSomeAnd};
+ghost use Rattle.std.specs.Prelude.{◌≡◌, ◌↔◌, ℕ, List, [], ◌∷◌, map, string_bytes, IsTrue, IfSome, IsSomeAnd};
 ghost use Rattle.cim_words.specs.declared.phases.PhaseSet.{PhaseSet};
 ghost use Rattle.room.specs.declared.task.Task.{Task};
-ghost use Rattle.room.specs.Command.{IsFileName, IsCommand};
+ghost use Rattle.room.specs.Command.{IsFileName, IsCommand, further_names};
 
 use crate::task::Task;
 use cim_words::{Id, PhaseSet};
@@ -21,9 +21,9 @@ pub(crate) struct Asked<'a> {
 
 /// What the words ask for: `check BASE`, `trace BASE SOURCE PHASES` or `script BASE SCRIPT`.
 pub(crate) fn command(words: &[String]) -> Option<Asked<'_>>
-    ensures found { IfSome result (λ x. IsCommand (map string_bytes words.now) x.base.now (option_to_list (option_map (λ s. s.now) x.script)) x.task) }
+    ensures found { IfSome result (λ x. IsCommand (map string_bytes words.now) x.base.now (further_names x) x.task) }
     ensures only { (name : List ℕ) (more : List (List ℕ)) (task : Task) → IsCommand (map string_bytes words.now) name more task
-        → IsSomeAnd result (λ x. (x.base.now ≡ name) × (option_to_list (option_map (λ s. s.now) x.script) ≡ more) × (x.task ≡ task)) }
+        → IsSomeAnd result (λ x. (x.base.now ≡ name) × (further_names x ≡ more) × (x.task ≡ task)) }
 {
     match words {
         [command, base] => check_words(command.as_str(), base.as_str()),
@@ -41,9 +41,9 @@ pub(crate) fn command(words: &[String]) -> Option<Asked<'_>>
 }
 
 fn check_words<'a>(command: &str, base: &'a str) -> Option<Asked<'a>>
-    ensures found { IfSome result (λ x. IsCommand (command.now ∷ base.now ∷ []) x.base.now (option_to_list (option_map (λ s. s.now) x.script)) x.task) }
+    ensures found { IfSome result (λ x. IsCommand (command.now ∷ base.now ∷ []) x.base.now (further_names x) x.task) }
     ensures only { (name : List ℕ) (more : List (List ℕ)) (task : Task) → IsCommand (command.now ∷ base.now ∷ []) name more task
-        → IsSomeAnd result (λ x. (x.base.now ≡ name) × (option_to_list (option_map (λ s. s.now) x.script) ≡ more) × (x.task ≡ task)) }
+        → IsSomeAnd result (λ x. (x.base.now ≡ name) × (further_names x ≡ more) × (x.task ≡ task)) }
 {
     if command != "check" || !is_file_name(base) {
         return None;
@@ -56,9 +56,9 @@ fn check_words<'a>(command: &str, base: &'a str) -> Option<Asked<'a>>
 }
 
 fn script_words<'a>(command: &str, base: &'a str, script: &'a str) -> Option<Asked<'a>>
-    ensures found { IfSome result (λ x. IsCommand (command.now ∷ base.now ∷ script.now ∷ []) x.base.now (option_to_list (option_map (λ s. s.now) x.script)) x.task) }
+    ensures found { IfSome result (λ x. IsCommand (command.now ∷ base.now ∷ script.now ∷ []) x.base.now (further_names x) x.task) }
     ensures only { (name : List ℕ) (more : List (List ℕ)) (task : Task) → IsCommand (command.now ∷ base.now ∷ script.now ∷ []) name more task
-        → IsSomeAnd result (λ x. (x.base.now ≡ name) × (option_to_list (option_map (λ s. s.now) x.script) ≡ more) × (x.task ≡ task)) }
+        → IsSomeAnd result (λ x. (x.base.now ≡ name) × (further_names x ≡ more) × (x.task ≡ task)) }
 {
     if command != "script" || !is_file_name(base) || !is_file_name(script) {
         return None;
@@ -71,9 +71,9 @@ fn script_words<'a>(command: &str, base: &'a str, script: &'a str) -> Option<Ask
 }
 
 fn trace_words<'a>(command: &str, base: &'a str, source: &str, phases: &str) -> Option<Asked<'a>>
-    ensures found { IfSome result (λ x. IsCommand (command.now ∷ base.now ∷ source.now ∷ phases.now ∷ []) x.base.now (option_to_list (option_map (λ s. s.now) x.script)) x.task) }
+    ensures found { IfSome result (λ x. IsCommand (command.now ∷ base.now ∷ source.now ∷ phases.now ∷ []) x.base.now (further_names x) x.task) }
     ensures only { (name : List ℕ) (more : List (List ℕ)) (task : Task) → IsCommand (command.now ∷ base.now ∷ source.now ∷ phases.now ∷ []) name more task
-        → IsSomeAnd result (λ x. (x.base.now ≡ name) × (option_to_list (option_map (λ s. s.now) x.script) ≡ more) × (x.task ≡ task)) }
+        → IsSomeAnd result (λ x. (x.base.now ≡ name) × (further_names x ≡ more) × (x.task ≡ task)) }
 {
     if command != "trace" || !is_file_name(base) {
         return None;

@@ -1,8 +1,9 @@
 //! The commands, each in a file of its own, over the files that were read.
 
-ghost use Rattle.std.specs.Prelude.{◌≡◌, ◌≤◌, length, option_map, option_to_list, IfOk, IfErr, IsSome, OnErr};
+ghost use Rattle.std.specs.Prelude.{◌≡◌, ◌≤◌, length, IfOk, IfErr, IsSome, OnErr};
 ghost use Rattle.room.specs.Base.{base_limit};
 ghost use Rattle.room.specs.Ending.{IsTold, IsUntold};
+ghost use Rattle.room.specs.Files.{further_contents};
 ghost use Rattle.room.specs.Refusal.{IfRefusal};
 ghost use Rattle.script.specs.Sending.{output};
 
@@ -30,7 +31,7 @@ pub(crate) fn perform<K: Sink>(
 ) -> Result<Status, Failure<Refusal>>
     requires fits { length contents.base.items ≤ base_limit }
     requires files { task ≡ Task.Play → IsSome contents.script }
-    ensures told { IfOk result (λ status. IsTold contents.base.items task (option_to_list (option_map (λ v. v.items) contents.script)) status
+    ensures told { IfOk result (λ status. IsTold contents.base.items task (further_contents contents) status
         (output (K.written out.old) (K.faults out.old) (K.handed out.old)) (output (K.written out.new) (K.faults out.new) (K.handed out.new))) }
     ensures untold { IfErr result (λ failure. IfRefusal failure (IsUntold contents.base.items task)) }
     ensures untouched { OnErr result (output (K.written out.new) (K.faults out.new) (K.handed out.new) ≡ output (K.written out.old) (K.faults out.old) (K.handed out.old)) }

@@ -4,8 +4,9 @@ ghost use Rattle.std.specs.Prelude.{◌≡◌, ◌≤◌, ◌⊎◌, ℕ, List, 
 ghost use Rattle.grid_out.specs.Faults.{CountsFaults};
 ghost use Rattle.grid_out.specs.Shelf.{AsksFor};
 ghost use Rattle.room.specs.Base.{base_limit};
+ghost use Rattle.room.specs.Command.{further_names};
 ghost use Rattle.room.specs.Ending.{is_failed_read};
-ghost use Rattle.room.specs.Files.{AreContents, RefusesFiles};
+ghost use Rattle.room.specs.Files.{AreContents, RefusesFiles, further_contents};
 ghost use Rattle.room.specs.Refusal.{IfRefusal};
 
 use crate::command::Asked;
@@ -33,11 +34,11 @@ pub(crate) fn read_files<F: Shelf>(
 ) -> Result<Contents, Failure<Refusal>>
     ensures base { IfOk result (λ contents. IfSome (F.content shelf.old asked.entry.base.now) (λ b. contents.base.items ≡ b)) }
     ensures fits { IfOk result (λ contents. length contents.base.items ≤ base_limit) }
-    ensures script { IfOk result (λ contents. AreContents (F.content shelf.old) (option_to_list (option_map (λ s. s.now) asked.entry.script)) (option_to_list (option_map (λ v. v.items) contents.script))) }
-    ensures refused { IfErr result (λ failure. IfRefusal failure (RefusesFiles (F.content shelf.old) (asked.entry.base.now ∷ option_to_list (option_map (λ s. s.now) asked.entry.script)))) }
+    ensures further { IfOk result (λ contents. AreContents (F.content shelf.old) (further_names asked.entry) (further_contents contents)) }
+    ensures refused { IfErr result (λ failure. IfRefusal failure (RefusesFiles (F.content shelf.old) (asked.entry.base.now ∷ further_names asked.entry))) }
     ensures cause { CountsFaults (F.faults shelf.old) (F.faults shelf.new) (is_failed_read result) }
-    ensures asks { OnOk result (AsksFor (F.asked shelf.old) (F.asked shelf.new) (asked.entry.base.now ∷ option_to_list (option_map (λ s. s.now) asked.entry.script))) }
-    ensures asks_err { OnErr result (AsksFor (F.asked shelf.old) (F.asked shelf.new) (asked.entry.base.now ∷ option_to_list (option_map (λ s. s.now) asked.entry.script))
+    ensures asks { OnOk result (AsksFor (F.asked shelf.old) (F.asked shelf.new) (asked.entry.base.now ∷ further_names asked.entry)) }
+    ensures asks_err { OnErr result (AsksFor (F.asked shelf.old) (F.asked shelf.new) (asked.entry.base.now ∷ further_names asked.entry)
         ⊎ AsksFor (F.asked shelf.old) (F.asked shelf.new) (asked.entry.base.now ∷ [])) }
     ensures kept { (name : List ℕ) → F.content shelf.new name ≡ F.content shelf.old name }
 {

@@ -1,6 +1,8 @@
-use Rattle.std.proofs.Common.{◌≡◌, ◌∷◌, inr, inl, refl, sym, subst, map, string_bytes, option_map, option_to_list, Result, Err, IfErr}
+use Rattle.std.proofs.Common.{◌≡◌, ◌∷◌, inr, inl, refl, sym, subst, map, string_bytes, Result, Err, IfErr}
 use Rattle.script.specs.Sending.{output}
+use Rattle.room.specs.Command.{further_names}
 use Rattle.room.specs.Ending.{ending}
+use Rattle.room.specs.Files.{further_contents}
 use Rattle.room.specs.Refusal.{IfRefusal}
 use Rattle.room.specs.Run.{AreNames, Asks, Explains}
 use Rattle.room.specs.declared.refusal.Failure.{Failure}
@@ -13,34 +15,34 @@ pub returns-clause-said : goal.returns-clause-said
 returns-clause-said g c =
     let asks : Asks (map string_bytes c.args.words.now) = record {
       name = c.in-Some.asked.base.now;
-      more = option_to_list (option_map (λ s. s.now) c.in-Some.asked.script);
+      more = further_names c.in-Some.asked;
       asked = c.in-Some.asked.task;
       command = c.in-Some.ensures.found;
     } in
     let before = output (g.K.Sink.written c.args.out.now) (g.K.Sink.faults c.args.out.now) (g.K.Sink.handed c.args.out.now) in
     let after = output (g.K.Sink.written c.perform.new.out) (g.K.Sink.faults c.perform.new.out) (g.K.Sink.handed c.perform.new.out) in
-    let contents = option_to_list (option_map (λ v. v.items) c.in_ok-contents.contents.script) in
+    let contents = further_contents c.in_ok-contents.contents in
     said c.perform.result (g.F.Shelf.content c.args.shelf.now) (map string_bytes c.args.words.now) asks c.in_ok-contents.contents.base.items contents before after
-    (record { base = c.in_ok-contents.ensures.base; further = c.in_ok-contents.ensures.script }) c.perform.ensures.told
+    (record { base = c.in_ok-contents.ensures.base; further = c.in_ok-contents.ensures.further }) c.perform.ensures.told
 
 pub returns-clause-refusal : goal.returns-clause-refusal
 returns-clause-refusal g c =
     let asks : Asks (map string_bytes c.args.words.now) = record {
       name = c.in-Some.asked.base.now;
-      more = option_to_list (option_map (λ s. s.now) c.in-Some.asked.script);
+      more = further_names c.in-Some.asked;
       asked = c.in-Some.asked.task;
       command = c.in-Some.ensures.found;
     } in
-    let contents = option_to_list (option_map (λ v. v.items) c.in_ok-contents.contents.script) in
+    let contents = further_contents c.in_ok-contents.contents in
     untold c.perform.result (g.F.Shelf.content c.args.shelf.now) (map string_bytes c.args.words.now) asks c.in_ok-contents.contents.base.items contents
-    (record { base = c.in_ok-contents.ensures.base; further = c.in_ok-contents.ensures.script }) c.perform.ensures.untold
+    (record { base = c.in_ok-contents.ensures.base; further = c.in_ok-contents.ensures.further }) c.perform.ensures.untold
 
 -- all files were asked for
 pub returns-clause-asks : goal.returns-clause-asks
 returns-clause-asks g c =
     let asks : Asks (map string_bytes c.args.words.now) = record {
       name = c.in-Some.asked.base.now;
-      more = option_to_list (option_map (λ s. s.now) c.in-Some.asked.script);
+      more = further_names c.in-Some.asked;
       asked = c.in-Some.asked.task;
       command = c.in-Some.ensures.found;
     } in
@@ -51,7 +53,7 @@ pub returns-in_err-contents-clause-refusal : goal.returns-in_err-contents-clause
 returns-in_err-contents-clause-refusal g c =
     let asks : Asks (map string_bytes c.args.words.now) = record {
       name = c.in-Some.asked.base.now;
-      more = option_to_list (option_map (λ s. s.now) c.in-Some.asked.script);
+      more = further_names c.in-Some.asked;
       asked = c.in-Some.asked.task;
       command = c.in-Some.ensures.found;
     } in
@@ -64,7 +66,7 @@ pub returns-in_err-contents-clause-asks : goal.returns-in_err-contents-clause-as
 returns-in_err-contents-clause-asks g c =
     let asks : Asks (map string_bytes c.args.words.now) = record {
       name = c.in-Some.asked.base.now;
-      more = option_to_list (option_map (λ s. s.now) c.in-Some.asked.script);
+      more = further_names c.in-Some.asked;
       asked = c.in-Some.asked.task;
       command = c.in-Some.ensures.found;
     } in
