@@ -8,12 +8,12 @@ ghost use Rattle.room.specs.Refusal.{IfRefusal};
 ghost use Rattle.script.specs.Sending.{output};
 
 mod check;
-mod script;
+mod play;
 mod trace;
 
 use crate::base::read_base;
 use crate::commands::check::tell_check;
-use crate::commands::script::play_script;
+use crate::commands::play::play_script;
 use crate::commands::trace::tell_trace;
 use crate::files::Contents;
 use crate::refusal::{Failure, Refusal};
