@@ -34,16 +34,20 @@ struct Day<L: Ledger> {
 
 /// What requests are answered over a base in short, each reply behind its console, and then the history.
 pub(crate) fn answers(alloc: Global, short: &str, script: &[u8]) -> Result<String, Fail> {
-    counted::<Brand>(alloc, short, script, Blank::new(1))
+    let told = counted::<Brand>(alloc, short, script, Blank::new(1))?;
+    match String::from_utf8(told) {
+        Ok(text) => Ok(text),
+        Err(_) => Err(Fail::new("replies that are no text")),
+    }
 }
 
-/// The same, with a ledger for the counter of steps.
+/// The bytes of that, with a ledger for the counter of steps.
 fn counted<L: Ledger>(
     alloc: Global,
     short: &str,
     script: &[u8],
     blank: Blank,
-) -> Result<String, Fail>
+) -> Result<Vec<u8>, Fail>
     requires name { blank.name ≡ L.name }
     requires parts { blank.parts ≡ L.parts }
     requires some { blank.parts ≡ 1 }
@@ -62,10 +66,7 @@ fn counted<L: Ledger>(
         day.take(line, &mut told)?;
     }
     day.write_history(&mut told)?;
-    match String::from_utf8(told) {
-        Ok(text) => Ok(text),
-        Err(_) => Err(Fail::new("replies that are no text")),
-    }
+    Ok(told)
 }
 
 /// The statements of a base in short, which breaks no rule.
