@@ -4,7 +4,7 @@ ghost use Rattle.std.specs.Prelude.{◌≡◌, IfOk};
 ghost use Rattle.cim_model.specs.Profile.{IsFaultless};
 ghost use Rattle.desk.specs.Consoles.{IsConsole};
 
-use crate::texts::base;
+use crate::texts::base as in_full;
 use board::Dated;
 use cim_profile::first_break;
 use cim_words::{Id, NoMemory, PhaseSet};
@@ -34,22 +34,28 @@ struct Day<L: Ledger> {
 
 /// What requests are answered over a base in short, each reply behind its console, and then the history.
 pub(crate) fn answers(alloc: Global, short: &str, script: &[u8]) -> Result<String, Fail> {
-    counted::<Brand>(alloc, short, script, Blank::new(1))
+    let base = statements(alloc, short)?;
+    let told = counted::<Brand>(alloc, base, script, Blank::new(1))?;
+    match String::from_utf8(told) {
+        Ok(text) => Ok(text),
+        Err(_) => Err(Fail::new("replies that are no text")),
+    }
 }
 
-/// The same, with a ledger for the counter of steps.
+/// The bytes of that, with a ledger for the counter of steps.
 fn counted<L: Ledger>(
     alloc: Global,
-    short: &str,
+    base: StatementSet,
     script: &[u8],
     blank: Blank,
-) -> Result<String, Fail>
+) -> Result<Vec<u8>, Fail>
+    requires faultless { IsFaultless base }
     requires name { blank.name ≡ L.name }
     requires parts { blank.parts ≡ L.parts }
     requires some { blank.parts ≡ 1 }
 {
     let mut steps = Steps::<L>::of(blank);
-    let newest = Version::first(alloc, statements(alloc, short)?, &mut steps)?;
+    let newest = Version::first(alloc, base, &mut steps)?;
     let mut day = Day {
         alloc,
         newest,
@@ -62,17 +68,14 @@ fn counted<L: Ledger>(
         day.take(line, &mut told)?;
     }
     day.write_history(&mut told)?;
-    match String::from_utf8(told) {
-        Ok(text) => Ok(text),
-        Err(_) => Err(Fail::new("replies that are no text")),
-    }
+    Ok(told)
 }
 
 /// The statements of a base in short, which breaks no rule.
 fn statements(alloc: Global, short: &str) -> Result<StatementSet, Fail>
     ensures { IfOk result IsFaultless }
 {
-    let text = base(alloc, short)?;
+    let text = in_full(alloc, short)?;
     if text.len() > 1_000_000 {
         return Err(Fail::new("a long base"));
     }
