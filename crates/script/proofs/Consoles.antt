@@ -1,5 +1,5 @@
 -- A line names one console.
-use Rattle.std.proofs.Common.{◌≡◌, ℕ, ◌+◌, ◌-◌, ◌<◌, ◌≤◌, ◌^◌, ◌/◌, ◌%◌, ◌⊎◌, inl, inr, List, [], ◌∷◌, ◌++◌, cases_lt, arith, refl, sym, ap, ◌∙◌, subst, append_assoc, codes}
+use Rattle.std.proofs.Common.{◌≡◌, ℕ, ◌+◌, ◌-◌, ◌<◌, ◌≤◌, ◌^◌, ◌/◌, ◌%◌, ◌⊎◌, inl, inr, List, [], ◌∷◌, ◌++◌, arith, refl, sym, ap, ◌∙◌, subst, append_assoc, codes}
 use Rattle.std.proofs.lemmas.Fmt.{decimal_by_steps, decimal_digit}
 use Rattle.std.specs.Fmt.{decimal}
 use Rattle.desk.specs.Consoles.{IsConsole}
@@ -60,4 +60,17 @@ one_console line a b p q is is' x y = elim (begins a p is) [
 
 -- the mark of a console stands before a text
 pub behind_mark : (console : ℕ) (text : List ℕ) → behind_console console [] ++ text ≡ behind_console console text
-behind_mark console text = append_assoc (codes "c") (decimal console ++ codes " " ++ []) text ∙ ap (λ (l : List ℕ). codes "c" ++ l) (append_assoc (decimal console) (codes " " ++ []) text)
+behind_mark console text = ap (λ (l : List ℕ). 99 ∷ l) (append_assoc (decimal console) (32 ∷ []) text)
+
+-- the marks of consoles
+pub one_digit : (console n : ℕ) → console ≡ n → 0 < n → n < 10 → 99 ∷ (48 + n) ∷ 32 ∷ [] ≡ behind_console console []
+one_digit console n same some few = elim (begins console [] (omega (arith, same, some), omega (arith, same, few))) [
+  | inl x ↦ ap (λ (m : ℕ). 99 ∷ (48 + m) ∷ 32 ∷ []) (sym same) ∙ sym x.1
+  | inr x ↦ absurd (let over = x.0 in omega (arith, same, few))
+]
+
+pub two_digits : (console n : ℕ) → console ≡ n → 10 ≤ n → n ≤ 16 → 99 ∷ 49 ∷ (38 + n) ∷ 32 ∷ [] ≡ behind_console console []
+two_digits console n same many few = elim (begins console [] (omega (arith, same, many), omega (arith, same, few))) [
+  | inl x ↦ absurd (let under = x.0 in omega (arith, same, many))
+  | inr x ↦ ap (λ (m : ℕ). 99 ∷ 49 ∷ (38 + m) ∷ 32 ∷ []) (sym same) ∙ sym x.1
+]

@@ -74,7 +74,7 @@ module _ (laws : Laws) (before after other : RehearsalState) where
       (p.2 ∙ ap (λ (d : Changes). reply_text (reply.Staged (length d.pre) (length d.rev) (length d.fwd))) same ∙ sym q.2, p.3 ∙ ap (λ (d : Changes). with_staged before console (Some d)) same ∙ sym q.3)
   one_staging console document x y (inr p) (inr q) =
       let same = laws.document_faults document p.0 q.0 p.1 q.1 in
-      (p.2 ∙ ap (λ (bad : StageFault). reply_text (reply.Fault (fault.Stage bad))) same ∙ sym q.2, p.3 ∙ sym q.3)
+      (p.2.0 ∙ ap (λ (bad : StageFault). reply_text (reply.Fault (fault.Stage bad))) same ∙ sym q.2.0, p.2.1 ∙ sym q.2.1)
   one_staging console document x y (inl p) (inr q) = absurd (laws.document_either document p.0 q.0 p.1 q.1)
   one_staging console document x y (inr p) (inl q) = absurd (laws.document_either document q.0 p.0 q.1 p.1)
 
@@ -91,7 +91,7 @@ module _ (laws : Laws) (before after other : RehearsalState) where
       let same = laws.networks past.base past.log p.0.now q.0.now p.0.replays q.0.replays in
       let rows = laws.traces q.0.now.model q.0.now.overlay start phases p.0.rows q.0.rows (subst (λ (n : Network). IsTrace (IsReached (network n.model n.overlay) start phases) p.0.rows) same p.0.trace) q.0.trace in
       (p.0.is_text ∙ ap (λ (r : List Row). trace_text (length past.log) r) rows ∙ sym q.0.is_text, p.1 ∙ sym q.1)
-  one_trace console start phases x y (inr p) (inr q) = (p.1 ∙ sym q.1, p.2 ∙ sym q.2)
+  one_trace console start phases x y (inr p) (inr q) = (p.1.0 ∙ sym q.1.0, p.1.1 ∙ sym q.1.1)
   one_trace console start phases x y (inl p) (inr q) = absurd (live_or_not console start phases x p.0 q.0)
   one_trace console start phases x y (inr p) (inl q) = absurd (live_or_not console start phases y q.0 p.0)
 
@@ -109,7 +109,7 @@ module _ (laws : Laws) (before after other : RehearsalState) where
       one_request console document q.0 x y (subst (λ (r : Request). AnswersRequest before console document r x after) same p.2) q.2
   one_of_console console document asked x y (inr p) (inr q) =
       let same = laws.faults true asked p.0 q.0 p.1 q.1 in
-      (p.2 ∙ ap (λ (bad : Fault). reply_text (reply.Fault bad)) same ∙ sym q.2, p.3 ∙ sym q.3)
+      (p.2.0 ∙ ap (λ (bad : Fault). reply_text (reply.Fault bad)) same ∙ sym q.2.0, p.2.1 ∙ sym q.2.1)
   one_of_console console document asked x y (inl p) (inr q) = absurd (laws.either true asked p.0 q.0 p.1 q.1)
   one_of_console console document asked x y (inr p) (inl q) = absurd (laws.either true asked q.0 p.0 q.1 p.1)
 

@@ -21,8 +21,9 @@ use Rattle.wire.specs.declared.request.Request.TheVariants as request
 -- ---- documents
 
 -- a document of one line more
-document_more : (lines : List (List ℕ)) (line : List ℕ) → document_text (lines ++ line ∷ []) ≡ document_text lines ++ line ++ line_feed ∷ []
-document_more lines line = flat_map-append (λ (l : List ℕ). l ++ line_feed ∷ []) lines (line ∷ []) ∙ ap (λ (rest : List ℕ). document_text lines ++ rest) (append-nil (line ++ line_feed ∷ []))
+document_more : (lines : List (List ℕ)) (line : List ℕ) → document_text (lines ++ line ∷ []) ≡ document_text lines ++ (line ++ line_feed ∷ [])
+document_more lines line =
+    flat_map-append (λ (l : List ℕ). l ++ line_feed ∷ []) lines (line ∷ []) ∙ ap (λ (rest : List ℕ). document_text lines ++ rest) (append-nil (line ++ line_feed ∷ []))
 
 kept_by : (text : List ℕ) (b : Bool) → nat_lt most_bytes (length text) ≡ b → kept text ≡ (if b then None else Some text)
 kept_by text b is = rw is refl

@@ -3,10 +3,11 @@ use Rattle.std.specs.Prelude.{ℕ, ◌≡◌, ◌≤◌, ◌++◌, List, [], ◌
 use Rattle.std.specs.Fmt.{decimal}
 use Rattle.cim_words.specs.Written.{line_limit}
 use Rattle.desk.specs.Consoles.{IsConsole}
+use Rattle.wire.specs.Words.{space}
 
 -- what stands before a request and before its reply: `c`, the console in decimal, and a space
 abbrev pub behind_console : ℕ → List ℕ → List ℕ
-behind_console console text = codes "c" ++ decimal console ++ codes " " ++ text
+behind_console console text = codes "c" ++ decimal console ++ space ∷ text
 
 -- the word by which a console stages a document
 abbrev pub stage_word : List ℕ

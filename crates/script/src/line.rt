@@ -63,7 +63,8 @@ fn mark(console: u8) -> &'static str
         13 => "c13 ",
         14 => "c14 ",
         15 => "c15 ",
-        _ => "c16 ",
+        16 => "c16 ",
+        _ => unreachable!(),
     }
 }
 
