@@ -56,7 +56,11 @@ struct Opened<V: Dated + Send + Sync> {
     readers: Vec<Reader<V>>,
 }
 
-fn open<V: Dated + Send + Sync>(alloc: Global, first: &V, consoles: u8) -> Result<Opened<V>, NoMemory>
+fn open<V: Dated + Send + Sync>(
+    alloc: Global,
+    first: &V,
+    consoles: u8,
+) -> Result<Opened<V>, NoMemory>
     requires { (0 < consoles) × (consoles ≤ 16) }
     ensures table { IfOk result (λ opened. (opened.seat.table_id ≡ (arc_value opened.board).shared.table_id) × (opened.seat.table_id.words ≡ consoles)) }
     ensures seat { IfOk result (λ opened. (opened.backs.items ≡ replicate consoles 0) × (opened.seat.me ≡ opening_seat consoles consoles consoles (V.log first.now) (V.origin first.now))) }

@@ -14,6 +14,7 @@ small_digits n below = decimal_by_steps IsSmall one more n (omega (arith, below)
   where
     one : (n : ℕ) → n < 10 → IsSmall n ((48 + n) ∷ [])
     one n few below = inl (few, refl)
+
     more : (n : ℕ) (ds : List ℕ) → 10 ≤ n → IsSmall (n / 10) ds → IsSmall n (ds ++ ((48 + n % 10) ∷ []))
     more n ds many front below =
         let tens : n / 10 ≡ 1 = omega (arith, many, below) in

@@ -1,4 +1,5 @@
 pub mod Consoles
+pub mod Hearing
 pub mod OneAnswer
 pub mod Opening
 pub mod Sending

@@ -64,9 +64,10 @@ module _ (laws : Laws) (before after other : RehearsalState) where
   one_cutover : (staged : Option Changes) (console : ℕ) (x y : List ℕ) → CutsOver staged before console x after → CutsOver staged before console y other → Same x y after other
   one_cutover None console x y p q = (p.0 ∙ sym q.0, p.1 ∙ sym q.1)
   one_cutover (Some d) console x y p q =
-      let same = laws.steps before.room after.room other.room (step.Submit console (event.Cutover d)) p.reply q.reply p.step q.step in
-      (p.told ∙ ap (λ (r : CoreReply). reply_text (reply_to_step r)) same.0 ∙ sym q.told,
-        same_state after other same.1 (p.staged ∙ ap (λ (r : CoreReply). staged_after r before console) same.0 ∙ sym q.staged))
+      let same = laws.steps before.room after.room other.room (step.Submit console (event.Cutover d)) p.reply q.reply p.step q.step in (
+        p.told ∙ ap (λ (r : CoreReply). reply_text (reply_to_step r)) same.0 ∙ sym q.told,
+        same_state after other same.1 (p.staged ∙ ap (λ (r : CoreReply). staged_after r before console) same.0 ∙ sym q.staged),
+      )
 
   one_staging : (console : ℕ) (document x y : List ℕ) → Stages before console document x after → Stages before console document y other → Same x y after other
   one_staging console document x y (inl p) (inl q) =

@@ -21,24 +21,27 @@ use Rattle.wire.specs.declared.request.Request.TheVariants as request
 -- ---- documents
 
 -- a document of one line more
-document_more : (lines : List (List ℕ)) (line : List ℕ) → document_text (lines ++ line ∷ []) ≡ document_text lines ++ (line ++ line_feed ∷ [])
+document_more : (lines : List (List ℕ)) (line : List ℕ) → document_text (lines ++ line ∷ []) ≡ document_text lines ++ line ++ line_feed ∷ []
 document_more lines line =
     flat_map-append (λ (l : List ℕ). l ++ line_feed ∷ []) lines (line ∷ []) ∙ ap (λ (rest : List ℕ). document_text lines ++ rest) (append-nil (line ++ line_feed ∷ []))
+    ∙ sym (append_assoc (document_text lines) line (line_feed ∷ []))
 
 kept_by : (text : List ℕ) (b : Bool) → nat_lt most_bytes (length text) ≡ b → kept text ≡ (if b then None else Some text)
 kept_by text b is = rw is refl
 
 -- what is kept of a document that goes on is what is kept of the longer one
 kept_more : (lines : List (List ℕ)) (line : List ℕ) → more_kept (kept (document_text lines)) line ≡ kept (document_text (lines ++ line ∷ []))
-kept_more lines line = rw (document_more lines line) (by (nat_lt most_bytes (length (document_text lines))) refl)
+kept_more lines line = by (nat_lt most_bytes (length (document_text lines))) refl ∙ ap kept (sym (document_more lines line))
   where
     text : List ℕ
     text = document_text lines
+
     by : (b : Bool) → nat_lt most_bytes (length text) ≡ b → more_kept (kept text) line ≡ kept (text ++ line ++ line_feed ∷ [])
     by true is =
         let long : most_bytes < length text = ltb-true most_bytes (length text) is in
-        let size : length (text ++ line ++ line_feed ∷ []) ≡ length text + length (line ++ line_feed ∷ []) = length-append text (line ++ line_feed ∷ []) in
-        let longer : most_bytes < length (text ++ line ++ line_feed ∷ []) = omega (arith, long, size) in
+        let ended : length (text ++ line ++ line_feed ∷ []) ≡ length (text ++ line) + 1 = length-append (text ++ line) (line_feed ∷ []) in
+        let size : length (text ++ line) ≡ length text + length line = length-append text line in
+        let longer : most_bytes < length (text ++ line ++ line_feed ∷ []) = omega (arith, long, size, ended) in
         rw (kept_by text true is, kept_by (text ++ line ++ line_feed ∷ []) true (lt-ltb _ _ longer)) refl
     by false is = rw (kept_by text false is) refl
 
@@ -86,8 +89,14 @@ StageIsRead = IsRequest true (stage_word) request.Stage
 turn_staged : StageIsRead → (before after : RehearsalState) (staged : Staged) (begun : Turn) (told : List ℕ) → Asks begun.line staged.console (stage_word)
     → staged.text ≡ kept (document_text begun.document) → StagesKept before staged told after → Answers before begun (behind_console staged.console told) after
 turn_staged law before after staged begun told asks same stages =
-    inr (inr (staged.console, stage_word, told, asks, refl,
-      inl (request.Stage, law, said before after staged (document_text begun.document) told same (nat_lt most_bytes (length (document_text begun.document))) refl stages)))
+    inr (inr (
+      staged.console,
+      stage_word,
+      told,
+      asks,
+      refl,
+      inl (request.Stage, law, said before after staged (document_text begun.document) told same (nat_lt most_bytes (length (document_text begun.document))) refl stages),
+    ))
 
 module _ (law : StageIsRead) (start : RehearsalState) (lines : List (List ℕ)) where
   -- one more turn was answered
@@ -132,7 +141,7 @@ module _ (law : StageIsRead) (start : RehearsalState) (lines : List (List ℕ)) 
       by (Some staged) (Some more) (Some begun) is_open turns x =
           none_more rest (Some more) now after text reply s.done (Some (with_line begun line))
           (subst (λ (m : Staged). Asks begun.line m.console (stage_word) × (m.text ≡ kept (document_text (begun.document ++ line ∷ [])))) (sym x.1)
-            (is_open.0, ap (λ (t : Option (List ℕ)). more_kept t line) is_open.1 ∙ kept_more begun.document line))
+          (is_open.0, ap (λ (t : Option (List ℕ)). more_kept t line) is_open.1 ∙ kept_more begun.document line))
           (turns ∙ ap (λ (ts : List Turn). s.done ++ ts) (rw (x.0) refl)) s.answered x.2 x.3
       by None next (Some begun) is_open turns x = absurd is_open
       by (Some staged) next None is_open turns x = absurd is_open

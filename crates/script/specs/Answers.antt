@@ -56,7 +56,7 @@ Traces before console start phases text after =
 abbrev pub Stages : RehearsalState → ℕ → List ℕ → List ℕ → RehearsalState → Type 0
 Stages before console document text after =
     ((d : Changes) × IsDocument document d × (text ≡ reply_text (reply.Staged (length d.pre) (length d.rev) (length d.fwd)))
-        × (after ≡ with_staged before console (Some d)))
+    × (after ≡ with_staged before console (Some d)))
     ⊎ ((bad : StageFault) × IsFault document bad × Tells before (reply.Fault (fault.Stage bad)) text after)
 
 -- what is staged after a cutover: a difference that was accepted is spent
@@ -101,7 +101,7 @@ Answers before turn text after =
     ((line_limit < length turn.line) × (text ≡ told_to_none fault.Long) × (after ≡ before))
     ⊎ ((NamesNoConsole turn.line × (text ≡ told_to_none fault.Console) × (after ≡ before))
     ⊎ ((console : ℕ) × (asked told : List ℕ) × Asks turn.line console asked × (text ≡ behind_console console told)
-        × AnswersConsole before console (document_text turn.document) asked told after))
+    × AnswersConsole before console (document_text turn.document) asked told after))
 
 -- turns are answered one after the other
 abbrev pub AreAnswered : RehearsalState → List Turn → List ℕ → RehearsalState → Type 0

@@ -42,7 +42,7 @@ HasFault None bad = bad ≡ record { line = 0; word = word.TooLong }
 abbrev pub StagesKept : RehearsalState → Staged → List ℕ → RehearsalState → Type 0
 StagesKept before staged text after =
     ((d : Changes) × Says staged.text d × (text ≡ reply_text (reply.Staged (length d.pre) (length d.rev) (length d.fwd)))
-        × (after ≡ with_staged before staged.console (Some d)))
+    × (after ≡ with_staged before staged.console (Some d)))
     ⊎ ((bad : StageFault) × HasFault staged.text bad × Tells before (reply.Fault (fault.Stage bad)) text after)
 
 -- What a console asks is answered; or it stages a document, which is answered later.

@@ -1,12 +1,11 @@
 //! What a console is answered.
 
-ghost use Rattle.std.specs.Prelude.{◌≡◌, ◌≢◌, ◌++◌, [], ℕ, List, OnOk};
+ghost use Rattle.std.specs.Prelude.{◌≡◌, ◌++◌, [], ℕ, List, OnOk};
 ghost use Rattle.desk.specs.Consoles.{IsConsole};
 ghost use Rattle.room_core.specs.Views.{IsEvent};
 ghost use Rattle.script.specs.Answers.{AnswersRequest, CutsOver, Steps as IsStepped, Traces, reply_to_step};
 ghost use Rattle.script.specs.Rehearsal.{staged_by};
 ghost use Rattle.script.specs.Staging.{StagesKept};
-ghost use Rattle.wire.specs.declared.request.Request.{Request};
 
 use crate::rehearsal::Rehearsal;
 use crate::staging::Staging;
@@ -21,15 +20,14 @@ use versions::TraceNo;
 use wire::{Request, write_reply};
 
 impl<L: Ledger> Rehearsal<L> {
-    /// Answers a request of a console that stages nothing.
+    /// Answers a request of a console. One that stages a document comes with a document of no lines.
     pub(crate) fn answer(
         &mut self,
         console: u8,
         request: Request,
         into: &mut Vec<u8>,
     ) -> Result<(), NoMemory>
-        requires console { IsConsole console }
-        requires other { request ≢ Request.Stage }
+        requires { IsConsole console }
         ensures { OnOk result ((text : List ℕ) × (into.new.items ≡ into.old.items ++ text) × AnswersRequest self.old console [] request text self.new) }
     {
         match request {
@@ -39,7 +37,7 @@ impl<L: Ledger> Rehearsal<L> {
             }
             Request::Look(at) => self.step(&CoreEvent::Look { console, at }, into),
             Request::Trace { start, phases } => self.trace(console, start, phases, into),
-            Request::Stage => unreachable!(),
+            Request::Stage => self.stage(Staging::of(self.alloc, console), into),
             Request::Cutover => self.cut_over(console, into),
             Request::Bye => write_reply(&Reply::Bye, into),
         }

@@ -13,9 +13,7 @@ use cim_words::NoMemory;
 use nt_text::LINE_LIMIT;
 use room_words::{Fault, Reply};
 use std::sync::ledger::Ledger;
-use wire::{
-    Request, a_stage_is_one_word, read_request, requests_have_one_reading, write_reply,
-};
+use wire::{read_request, write_reply};
 
 impl<L: Ledger> Rehearsal<L> {
     /// Takes the next line, which may stand within a document.
@@ -34,11 +32,7 @@ impl<L: Ledger> Rehearsal<L> {
     }
 
     /// Answers a line outside a document, or begins the document that a console stages by it.
-    fn begin(
-        &mut self,
-        line: &[u8],
-        into: &mut Vec<u8>,
-    ) -> Result<Option<Staging>, NoMemory>
+    fn begin(&mut self, line: &[u8], into: &mut Vec<u8>) -> Result<Option<Staging>, NoMemory>
         ensures { IfOk result (λ next. (text : List ℕ) × (into.new.items ≡ into.old.items ++ text) × Begins self.old line.now text self.new next) }
     {
         if is_skipped(line) {
@@ -65,21 +59,15 @@ impl<L: Ledger> Rehearsal<L> {
         requires { IsConsole console }
         ensures { IfOk result (λ next. (text : List ℕ) × (into.new.items ≡ into.old.items ++ text) × Hears self.old console request.now text self.new next) }
     {
-        a_stage_is_one_word();
-        requests_have_one_reading();
-        match read_request(request, true) {
-            Ok(Request::Stage) => Ok(Some(Staging::of(self.alloc, console))),
-            Ok(request) => {
-                write_console(console, into)?;
-                self.answer(console, request, into)?;
-                Ok(None)
-            }
-            Err(fault) => {
-                write_console(console, into)?;
-                write_reply(&Reply::Fault(fault), into)?;
-                Ok(None)
-            }
+        if request == b"stage".as_slice() {
+            return Ok(Some(Staging::of(self.alloc, console)));
         }
+        write_console(console, into)?;
+        match read_request(request, true) {
+            Ok(request) => self.answer(console, request, into)?,
+            Err(fault) => write_reply(&Reply::Fault(fault), into)?,
+        }
+        Ok(None)
     }
 
     /// Takes a line of a document, and answers the document where it ends.
