@@ -24,7 +24,12 @@ fn a_long_text_goes_in_pieces(rt: HostRuntime) -> Result<(), Fail> {
     let whole = answers(alloc, FEEDER, script.as_bytes())?;
     // The second piece is refused: the first stands, and it ends with a whole reply.
     let mut out = MemSink::new(alloc, 200_000, &[2])?;
-    let played = play(alloc, statements(alloc, FEEDER)?, script.as_bytes(), &mut out);
+    let played = play(
+        alloc,
+        statements(alloc, FEEDER)?,
+        script.as_bytes(),
+        &mut out,
+    );
     assert!(rt; played == Err(PlayFault::WriteFault));
     let front = text_of(alloc, out.written())?;
     assert!(rt; 65_536 <= front.len() && front.len() < 66_000);
@@ -36,7 +41,12 @@ fn a_long_text_goes_in_pieces(rt: HostRuntime) -> Result<(), Fail> {
 fn a_full_output_is_told(rt: HostRuntime) -> Result<(), Fail> {
     let alloc = rt.alloc();
     let mut out = MemSink::new(alloc, 9, &[])?;
-    let played = play(alloc, statements(alloc, FEEDER)?, b"c1 look\nc1 look\n", &mut out);
+    let played = play(
+        alloc,
+        statements(alloc, FEEDER)?,
+        b"c1 look\nc1 look\n",
+        &mut out,
+    );
     assert!(rt; played == Err(PlayFault::WriteFault));
     assert!(rt; out.written() == b"c1 seen 0".as_slice());
     Ok(())
