@@ -9,12 +9,12 @@ use std::marker::Model;
 
 /// A version to be published, with one copy of it for each console.
 #[derive(Drop)]
-pub struct Copies<V: Dated> {
+pub struct Copies<V: Dated + Send + Sync> {
     pub(crate) version: V,
     pub(crate) shares: Vec<V>,
 }
 
-impl<V: Dated> Model for Copies<V> {
+impl<V: Dated + Send + Sync> Model for Copies<V> {
     ghost use Rattle.std.specs.Prelude.{◌≡◌, length, replicate};
     ghost use Rattle.board.specs.Ends.{CopiesState, copies_code};
 
@@ -27,7 +27,7 @@ impl<V: Dated> Model for Copies<V> {
     ghost invariant = { λ k. k.shares.items ≡ replicate (length k.shares.items) k.version };
 }
 
-impl<V: Dated> Copies<V> {
+impl<V: Dated + Send + Sync> Copies<V> {
     /// The version and one copy for each console, of which there are 1 to 16. The version comes back where there is no memory.
     pub fn of(alloc: Global, version: V, consoles: u8) -> Result<Copies<V>, (NoMemory, V)>
         requires { (0 < consoles) × (consoles ≤ 16) }

@@ -4,7 +4,7 @@ ghost use Rattle.std.specs.Prelude.{◌≡◌, List, length, IfOk};
 use crate::NoMemory;
 
 /// A version of something that only grows: contracts see of it a log, whose length is its number, and where it began.
-pub trait Dated: Drop + Send + Sync {
+pub trait Dated: Drop {
     /// What the log lists.
     type Item;
 

@@ -8,13 +8,16 @@ use crate::writer::Writer;
 
 /// A board that has been closed.
 #[derive(Drop)]
-pub struct Closed<V: Dated> {
+pub struct Closed<V: Dated + Send + Sync> {
     /// The version published last, or the first one.
     pub last: V,
 }
 
 /// Closes a board with all its readers: what each has seen was published.
-pub fn close<V: Dated>(mut writer: Writer<V>, mut readers: Vec<Reader<V>>) -> Closed<V>
+pub fn close<V: Dated + Send + Sync>(
+    mut writer: Writer<V>,
+    mut readers: Vec<Reader<V>>,
+) -> Closed<V>
     requires all { length readers.items ≡ writer.consoles }
     requires board { All (λ r. r.board ≡ writer.board) readers.items }
     ensures last { result.last ≡ writer.last }

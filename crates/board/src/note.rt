@@ -5,11 +5,11 @@ use std::marker::Model;
 
 /// What a writer had published when it made this.
 #[derive(Drop)]
-pub struct Note<V: Dated> {
+pub struct Note<V: Dated + Send + Sync> {
     pub(crate) seat: BoardSeat<V>,
 }
 
-impl<V: Dated> Model for Note<V> {
+impl<V: Dated + Send + Sync> Model for Note<V> {
     ghost use Rattle.board.specs.Ends.{NoteState, note_code};
 
     ghost Value = { NoteState V.Item V.Origin };

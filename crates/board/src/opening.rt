@@ -16,7 +16,7 @@ mod laying;
 use laying::{claim_all, enroll_all, lay};
 
 /// The ends of a new board with 1 to 16 consoles, whose first version this is. It comes back where there is no memory.
-pub fn start<V: Dated>(
+pub fn start<V: Dated + Send + Sync>(
     alloc: Global,
     first: V,
     consoles: u8,
@@ -49,14 +49,18 @@ pub fn start<V: Dated>(
 
 /// All of a new board but the first version.
 #[derive(Drop)]
-struct Opened<V: Dated> {
+struct Opened<V: Dated + Send + Sync> {
     board: SharedBoard<V>,
     seat: BoardSeat<V>,
     backs: Vec<usize>,
     readers: Vec<Reader<V>>,
 }
 
-fn open<V: Dated>(alloc: Global, first: &V, consoles: u8) -> Result<Opened<V>, NoMemory>
+fn open<V: Dated + Send + Sync>(
+    alloc: Global,
+    first: &V,
+    consoles: u8,
+) -> Result<Opened<V>, NoMemory>
     requires { (0 < consoles) × (consoles ≤ 16) }
     ensures table { IfOk result (λ opened. (opened.seat.table_id ≡ (arc_value opened.board).shared.table_id) × (opened.seat.table_id.words ≡ consoles)) }
     ensures seat { IfOk result (λ opened. (opened.backs.items ≡ replicate consoles 0) × (opened.seat.me ≡ opening_seat consoles consoles consoles (V.log first.now) (V.origin first.now))) }

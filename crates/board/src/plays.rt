@@ -63,13 +63,13 @@ impl<V, I, O> Play<Option<V>, Knows<I, O>> for Look {
     ghost then = { looks };
 }
 
-impl<V: Dated> Play<Option<V>, Knows<V::Item, V::Origin>> for Collect {
+impl<V: Dated + Send + Sync> Play<Option<V>, Knows<V::Item, V::Origin>> for Collect {
     ghost use Rattle.board.specs.Steps.{collects};
 
     ghost then = { collects V.log V.origin };
 }
 
-impl<V: Dated> Play<Option<V>, Knows<V::Item, V::Origin>> for Deliver {
+impl<V: Dated + Send + Sync> Play<Option<V>, Knows<V::Item, V::Origin>> for Deliver {
     ghost use Rattle.board.specs.Steps.{delivers};
 
     ghost then = { delivers V.log V.origin };

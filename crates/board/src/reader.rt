@@ -12,7 +12,7 @@ use front::{Front, collect};
 
 /// One reader of a board. It never waits, and what it sees never goes back.
 #[derive(Drop)]
-pub struct Reader<V: Dated> {
+pub struct Reader<V: Dated + Send + Sync> {
     pub(crate) board: SharedBoard<V>,
     pub(crate) seat: BoardSeat<V>,
     pub(crate) console: usize,
@@ -20,7 +20,7 @@ pub struct Reader<V: Dated> {
     pub(crate) front: Option<Front<V>>,
 }
 
-impl<V: Dated> Model for Reader<V> {
+impl<V: Dated + Send + Sync> Model for Reader<V> {
     ghost use Rattle.std.specs.Prelude.{◌≡◌, ◌<◌, ◌≤◌, length, Some};
     ghost use Rattle.std.specs.Arc.{arc_value};
     ghost use Rattle.board.specs.Ends.{ReaderState, reader_code};
@@ -37,7 +37,7 @@ impl<V: Dated> Model for Reader<V> {
     ghost invariant = { λ r. (r.seat.table_id ≡ (arc_value r.board).shared.table_id) × (r.console < r.seat.table_id.words) × (r.seat.table_id.words ≤ 16) × (r.looks ≡ length (founds_of r.seat.me.0.role)) × IsReader V.log V.origin r.seat.me r.console r.front };
 }
 
-impl<V: Dated> Reader<V> {
+impl<V: Dated + Send + Sync> Reader<V> {
     ghost use Rattle.board.specs.declared.views.Role.TheVariants.{Spent};
     ghost use Rattle.std.specs.Prelude.{◌≡◌, ◌≢◌, ℕ, ◌+◌, ◌^◌, ◌<◌, ◌≤◌, [], ◌∷◌, ◌++◌, length, Some, ⊤};
     ghost use Rattle.std.specs.Borrow.{sem};

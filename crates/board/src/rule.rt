@@ -16,7 +16,8 @@ pub struct Opening<V: Drop> {
 /// The rule: at each console three slots, of which the reader has one, the writer one, and the word names the third.
 pub struct Triple;
 
-impl<V: Dated> TableRule<Option<V>, Knows<V::Item, V::Origin>, Opening<V>> for Triple {
+impl<V: Dated + Send + Sync> TableRule<Option<V>, Knows<V::Item, V::Origin>, Opening<V>>
+    for Triple {
     ghost use Rattle.board.specs.Rule.{Stands};
     ghost use Rattle.board.specs.Views.{opened};
 

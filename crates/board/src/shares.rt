@@ -6,7 +6,11 @@ use crate::dated::Dated;
 use std::alloc::Global;
 
 /// This many copies.
-pub(crate) fn shares<V: Dated>(alloc: Global, version: &V, count: u8) -> Result<Vec<V>, NoMemory>
+pub(crate) fn shares<V: Dated + Send + Sync>(
+    alloc: Global,
+    version: &V,
+    count: u8,
+) -> Result<Vec<V>, NoMemory>
     ensures { IfOk result (λ copies. copies.items ≡ replicate count version.now) }
 {
     let mut copies = Vec::new(alloc);

@@ -7,7 +7,7 @@ use crate::dated::Dated;
 use std::alloc::Global;
 
 /// Three slots for each console, with one copy of the version.
-pub(crate) fn lay_slots<V: Dated>(
+pub(crate) fn lay_slots<V: Dated + Send + Sync>(
     alloc: Global,
     version: &V,
     consoles: u8,

@@ -17,7 +17,7 @@ use sends::send_all;
 
 /// The one writer of a board. No reader can hold it up.
 #[derive(Drop)]
-pub struct Writer<V: Dated> {
+pub struct Writer<V: Dated + Send + Sync> {
     pub(crate) board: SharedBoard<V>,
     pub(crate) seat: BoardSeat<V>,
     /// For each console the slot, of its three, that the writer has.
@@ -26,7 +26,7 @@ pub struct Writer<V: Dated> {
     pub(crate) told: u64,
 }
 
-impl<V: Dated> Model for Writer<V> {
+impl<V: Dated + Send + Sync> Model for Writer<V> {
     ghost use Rattle.std.specs.Prelude.{◌≡◌, ◌<◌, ◌≤◌, length};
     ghost use Rattle.std.specs.Arc.{arc_value};
     ghost use Rattle.board.specs.Ends.{WriterState, writer_code};
@@ -42,7 +42,7 @@ impl<V: Dated> Model for Writer<V> {
     ghost invariant = { λ w. (w.seat.table_id ≡ (arc_value w.board).shared.table_id) × (0 < w.seat.table_id.words) × (w.seat.table_id.words ≤ 16) × (length w.backs.items ≡ w.seat.table_id.words) × IsSending V.log V.origin w.seat.me w.backs.items w.last };
 }
 
-impl<V: Dated> Writer<V> {
+impl<V: Dated + Send + Sync> Writer<V> {
     /// Shows every console this version, before it returns.
     pub fn publish(&mut self, copies: Copies<V>)
         requires consoles { copies.consoles ≡ self.old.consoles }

@@ -237,7 +237,7 @@ fn readers_never_go_back(rt: HostRuntime) -> Result<(), Fail> {
 }
 
 /// A look after a note has at least what was published when the note was made.
-fn look_after_note<V: Dated>(writer: &mut Writer<V>, reader: &mut Reader<V>) -> u32
+fn look_after_note<V: Dated + Send + Sync>(writer: &mut Writer<V>, reader: &mut Reader<V>) -> u32
     requires { (reader.old.board ≡ writer.old.board) × (length reader.old.founds < 2 ^ 63) }
     ensures told { length (V.log writer.old.last) ≤ result }
     ensures board { reader.new.board ≡ writer.new.board }

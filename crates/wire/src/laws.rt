@@ -18,7 +18,7 @@ pub fn requests_have_one_reading()
     ensures either { (scripted : Bool) (line : List ℕ) (a : Request) (f : Fault) → IsRequest scripted line a → IsRequestFault scripted line f → ⊥ }
 {}
 
-/// A line that stages a document is one word, and no other request is.
+/// A line stages a document exactly where it is the word `stage` alone.
 pub fn a_stage_is_one_word()
     ensures word { (scripted : Bool) (line : List ℕ) → IsRequest scripted line request.Stage → line ≡ request_word word.Stage }
     ensures stage { (scripted : Bool) → IsRequest scripted (request_word word.Stage) request.Stage }

@@ -19,7 +19,7 @@ use std::snapshot::Snapshot;
 use std::sync::Arc;
 
 /// The table, with the writer's seat.
-pub(crate) fn lay<V: Dated>(
+pub(crate) fn lay<V: Dated + Send + Sync>(
     alloc: Global,
     first: &V,
     consoles: u8,
@@ -47,7 +47,7 @@ pub(crate) fn lay<V: Dated>(
 }
 
 /// The writer takes its slot of each console.
-pub(crate) fn claim_all<V: Dated>(
+pub(crate) fn claim_all<V: Dated + Send + Sync>(
     shared: &SharedPart<V>,
     seat: &mut BoardSeat<V>,
     consoles: usize,
@@ -65,7 +65,7 @@ pub(crate) fn claim_all<V: Dated>(
 }
 
 /// The reader of the next console, with a copy of the first version.
-fn enroll<V: Dated>(
+fn enroll<V: Dated + Send + Sync>(
     board: SharedBoard<V>,
     from: &mut BoardSeat<V>,
     consoles: usize,
@@ -95,7 +95,7 @@ fn enroll<V: Dated>(
 }
 
 /// A reader for each console.
-pub(crate) fn enroll_all<V: Dated>(
+pub(crate) fn enroll_all<V: Dated + Send + Sync>(
     alloc: Global,
     board: &SharedBoard<V>,
     from: &mut BoardSeat<V>,

@@ -18,7 +18,7 @@ pub(crate) struct Front<V> {
 }
 
 /// Gives the version back for the fresh one.
-pub(crate) fn collect<V: Dated>(
+pub(crate) fn collect<V: Dated + Send + Sync>(
     shared: &SharedPart<V>,
     seat: &mut BoardSeat<V>,
     console: usize,

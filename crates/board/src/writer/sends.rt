@@ -11,7 +11,7 @@ use crate::rule::{BoardSeat, SharedPart};
 use crate::word::{fresh_word, slot_in};
 
 /// Puts a copy into the writer's slot of a console, and gives that for the slot which the word names.
-fn deliver<V: Dated>(
+fn deliver<V: Dated + Send + Sync>(
     shared: &SharedPart<V>,
     seat: &mut BoardSeat<V>,
     console: usize,
@@ -32,7 +32,7 @@ fn deliver<V: Dated>(
 }
 
 /// Sends one copy to each console.
-pub(crate) fn send_all<V: Dated>(
+pub(crate) fn send_all<V: Dated + Send + Sync>(
     shared: &SharedPart<V>,
     seat: &mut BoardSeat<V>,
     backs: &mut Vec<usize>,
