@@ -14,3 +14,8 @@ pub fn steps_have_one_reply<V: Advance>()
 {
     V::one_judgement();
 }
+
+/// A step leaves where the history began.
+pub fn steps_keep_origins<V: Advance>()
+    ensures { (before after : RoomState V.Origin) (event : CoreEvent) (reply : CoreReply) → IsStep (V.judges before.origin) before event reply after → after.origin ≡ before.origin }
+{}

@@ -11,6 +11,6 @@ mod submits;
 
 pub use cim_words::NoMemory;
 pub use event::CoreEvent;
-pub use laws::steps_have_one_reply;
+pub use laws::{steps_have_one_reply, steps_keep_origins};
 pub use reply::CoreReply;
 pub use room::RoomCore;
