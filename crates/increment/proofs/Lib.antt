@@ -1,0 +1,11 @@
+pub mod Acts
+pub mod Changed
+pub mod Few
+pub mod ItemParts
+pub mod Kept
+pub mod Moved
+pub mod OneMore
+pub mod Places
+pub mod Positions
+pub mod Stars
+pub mod Turned
