@@ -74,6 +74,12 @@ cp "$with_cut" "$folder/closed.nt"
 echo '<urn:uuid:00000000-0000-4000-8000-000000000092> <http://iec.ch/TC57/CIM100#Switch.open> "false" .' >> "$folder/closed.nt"
 writes 'trace through the closed cut' 0 <(reached 51 92 b1 c1 e1) trace "$folder/closed.nt" "$source" ABC
 
+# Scripts: a night's switching, and 600 requests of eight consoles with everything that can be wrong in them.
+writes 'a night on the IEEE feeder' 0 "$here/night_answers.txt" script "$ieee" "$here/night.txt"
+writes 'a crowd of consoles' 0 "$here/crowd/answers.txt" script "$here/crowd/base.nt" "$here/crowd/script.txt"
+writes 'a document that never ends' 0 "$here/crowd/endless_answers.txt" script "$here/crowd/base.nt" "$here/crowd/endless.txt"
+writes 'a missing script' 1 <(echo 'read fault') script "$first" "$folder/no_such_file.txt"
+
 # A refusal tells itself by its line and by the code with which the program exits.
 writes 'a source that is no equipment' 4 <(echo asked) trace "$first" 00000000-0000-4000-8000-0000000000a1 ABC
 writes 'words that are no command' 2 <(echo usage) check
@@ -92,5 +98,6 @@ writes 'trace of a file of one byte too many' 3 <(echo limit) trace "$folder/lar
 
 cannot_write 'a check' 5 check "$first"
 cannot_write 'a trace' 5 trace "$first" "$source" ABC
+cannot_write 'a script' 5 script "$ieee" "$here/night.txt"
 cannot_write 'a refusal' 1 check "$folder/no_such_file.nt"
 exit "$failed"

@@ -6,11 +6,13 @@ use Rattle.cim_model.specs.Trace.{IsTrace, Row}
 use Rattle.cim_words.specs.declared.phases.PhaseSet.{PhaseSet}
 use Rattle.cim_words.specs.declared.statement.Statement.{Statement}
 use Rattle.room_words.specs.Overlay.{no_overlay}
+use Rattle.script.specs.Played.{IsPlayed}
 use Rattle.nt_text.specs.Document.{IsBadDocument, IsDocument}
 use Rattle.nt_text.specs.declared.refusal.LineRefusal.{LineRefusal}
 use Rattle.statement_set.specs.Set.{IsOrdered}
 
--- a document has one list of statements or one first bad line, its statements are one set, and a trace of a network has one list of rows
+-- a document has one list of statements or one first bad line, its statements are one set, a trace of a network has one list of rows,
+-- and a script has one answer over a base
 pub record KeepLaws : Type 0 where
   pub document : (bytes : List ℕ) (s t : List Statement) → IsDocument bytes s → IsDocument bytes t → s ≡ t
   pub bad_line : (bytes : List ℕ) (n m : ℕ) (why other : LineRefusal) (s t : List Statement) → IsBadDocument bytes n why s → IsBadDocument bytes m other t
@@ -18,3 +20,4 @@ pub record KeepLaws : Type 0 where
   pub either : (bytes : List ℕ) (s t : List Statement) (n : ℕ) (why : LineRefusal) → IsDocument bytes s → IsBadDocument bytes n why t → ⊥
   pub set : (these those : List Statement) → IsOrdered these → IsOrdered those → ((s : Statement) → Contains these s ↔ Contains those s) → these ≡ those
   pub trace : (m : List Statement) (x : ℕ) (phases : PhaseSet) (a b : List Row) → IsTrace (IsReached (network m no_overlay) x phases) a → IsTrace (IsReached (network m no_overlay) x phases) b → a ≡ b
+  pub script : (base : List Statement) (script a b : List ℕ) → IsPlayed base script a → IsPlayed base script b → a ≡ b

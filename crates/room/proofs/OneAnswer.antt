@@ -1,18 +1,14 @@
 -- The words and what the shelf tells have one answer.
-use Rattle.std.proofs.Common.{◌≡◌, ℕ, ◌⊎◌, inl, inr, List, [], ◌∷◌, length, Option, Some, IfSome, IsTrue, true, false, codes, refl, sym, ap, subst, ◌∙◌, ◌==◌, Bool}
+use Rattle.std.proofs.Common.{◌≡◌, ℕ, ◌⊎◌, inl, inr, List, [], ◌∷◌, Option, Some, IfSome, IsTrue, true, false, refl, sym, ap, subst, ◌∙◌, Bool}
 use Rattle.std.proofs.lemmas.Option.{same_Some}
-use Rattle.cim_words.specs.IdText.{plain_number}
-use Rattle.cim_words.specs.Phases.{phase_text}
-use Rattle.cim_words.specs.declared.identifier.Id.{Id}
-use Rattle.cim_words.specs.declared.phases.PhaseSet.{PhaseSet}
 use Rattle.cim_words.specs.declared.statement.Statement.{Statement}
-use Rattle.cim_words.proofs.PhaseTexts.{phase_text-injective}
 use Rattle.room.specs.Base.{IsBase, RefusesBase}
-use Rattle.room.specs.Command.{IsCommand, IsCheckCommand, IsTraceCommand}
-use Rattle.room.specs.Run.{Answers, Asks, Explains, HasAnswer, IsNoCommand, IsRefused, RefusesTask, Tells, TellsBase, is_answer}
+use Rattle.room.specs.Files.{NoneIsLong, OneIsLong}
+use Rattle.room.specs.Run.{Answers, Asks, Explains, HasAnswer, IsNoCommand, IsRefused, Reads, RefusesTask, Tells, TellsFiles, is_answer}
 use Rattle.room.specs.Status.{line_of, status_of}
 use Rattle.room_words.specs.TraceText.{trace_text}
 use Rattle.room.specs.declared.refusal.BaseRefusal.{BaseRefusal}
+use Rattle.room.specs.declared.refusal.BaseRefusal.TheVariants as of_base
 use Rattle.room.specs.declared.refusal.Refusal.{Refusal}
 use Rattle.room.specs.declared.refusal.Refusal.TheVariants as refusal
 use Rattle.room.specs.declared.refusal.TaskRefusal.{TaskRefusal}
@@ -21,126 +17,172 @@ use Rattle.room.specs.declared.status.Status.{Status}
 use Rattle.room.specs.declared.status.Status.TheVariants as status
 use Rattle.room.specs.declared.task.Task.{Task}
 use Rattle.room.specs.declared.task.Task.TheVariants as task
+use Rattle.room.proofs.FileLemmas.{AllFit, AreTold, OneIsOver, as_told, fit_or_over, of_told, one_list, read_fits, told_contents, told_fits, told_over}
 use Rattle.room.proofs.LawsBelow.{KeepLaws}
 use Rattle.room.proofs.OneBase.{one_set, base_or_refused, one_refusal}
+use Rattle.room.proofs.OneCommand.{one_command}
 
--- words name one base and ask for one task
-same_trace : (a b : Id) (p q : PhaseSet) → a.number ≡ b.number → p ≡ q → task.Trace a p ≡ task.Trace b q
-same_trace a b p q numbers phases =
-    let ids : a ≡ b = ap (λ (n : ℕ). record { number = n }) numbers in
-    cc
+-- a task tells one text of a set and contents, or nothing for one reason
+one_text : KeepLaws → (asked : Task) (set : List Statement) (contents : List (List ℕ)) (x y : List ℕ) → Tells asked set contents x → Tells asked set contents y → x ≡ y
+one_text laws task.Check set contents x y a b = a ∙ sym b
+one_text laws (task.Trace source phases) set contents x y a b = a.is_text ∙ ap (trace_text 0) (laws.trace set source.number phases a.rows b.rows a.trace b.trace) ∙ sym b.is_text
+one_text laws task.Play set [] x y a b = absurd a
+one_text laws task.Play set (script ∷ []) x y a b = laws.script set script x y a b
+one_text laws task.Play set (script ∷ other ∷ more) x y a b = absurd a
 
-two_or_four : (words : List (List ℕ)) (name other : List ℕ) (source : ℕ) (phases : PhaseSet) → IsCheckCommand words name → IsTraceCommand words other source phases → ⊥
-two_or_four words name other source phases check trace =
-    let same : true ≡ false = ap (λ (ws : List (List ℕ)). length ws == 2) (sym check.two_words ∙ trace.four_words) in
-    absurd cc
-
--- (that a text is of one set of phases is a lemma of the crate of words, which has no law that says it)
-one_command : (words : List (List ℕ)) (name name' : List ℕ) (a b : Task) → IsCommand words name a → IsCommand words name' b → (name ≡ name') × (a ≡ b)
-one_command words name name' task.Check task.Check p q =
-    let same : codes "check" ∷ name ∷ [] ≡ codes "check" ∷ name' ∷ [] = sym p.two_words ∙ q.two_words in
-    let names : name ≡ name' = cc in
-    (names, refl)
-one_command words name name' task.Check (task.Trace source phases) p q = absurd (two_or_four words name name' source.number phases p q)
-one_command words name name' (task.Trace source phases) task.Check p q = absurd (two_or_four words name' name source.number phases q p)
-one_command words name name' (task.Trace source phases) (task.Trace source' phases') p q =
-    let same : codes "trace" ∷ name ∷ p.source_word ∷ phase_text phases ∷ [] ≡ codes "trace" ∷ name' ∷ q.source_word ∷ phase_text phases' ∷ [] =
-    sym p.four_words ∙ q.four_words in
-    let names : name ≡ name' = cc in
-    let texts : phase_text phases ≡ phase_text phases' = cc in
-    let source_words : p.source_word ≡ q.source_word = cc in
-    let sources : source.number ≡ source'.number = same_Some source.number source'.number (sym p.identifier ∙ ap plain_number source_words ∙ q.identifier) in
-    (names, same_trace source source' phases phases' sources (phase_text-injective phases phases' texts))
-
--- a task tells one text of a set, or nothing for one reason
-one_text : KeepLaws → (asked : Task) (set : List Statement) (x y : List ℕ) → Tells asked set x → Tells asked set y → x ≡ y
-one_text laws task.Check set x y a b = a ∙ sym b
-one_text laws (task.Trace source phases) set x y a b = a.is_text ∙ ap (trace_text 0) (laws.trace set source.number phases a.rows b.rows a.trace b.trace) ∙ sym b.is_text
-
-told_or_not : (asked : Task) (set : List Statement) (x : List ℕ) (why : TaskRefusal) → Tells asked set x → RefusesTask asked set why → ⊥
-told_or_not task.Check set x why tells none = none
-told_or_not (task.Trace source phases) set x of_task.Asked tells none = let same : true ≡ false = sym tells.equipment ∙ none in absurd cc
+told_or_not : (asked : Task) (set : List Statement) (contents : List (List ℕ)) (x : List ℕ) (why : TaskRefusal) → Tells asked set contents x → RefusesTask asked set why → ⊥
+told_or_not task.Check set contents x why tells none = none
+told_or_not (task.Trace source phases) set contents x of_task.Asked tells none = let same : true ≡ false = sym tells.equipment ∙ none in absurd cc
+told_or_not task.Play set contents x why tells none = none
 
 one_reason : (asked : Task) (set : List Statement) (a b : TaskRefusal) → RefusesTask asked set a → RefusesTask asked set b → a ≡ b
 one_reason task.Check set a b p q = absurd p
 one_reason (task.Trace source phases) set of_task.Asked of_task.Asked p q = refl
+one_reason task.Play set a b p q = absurd p
 
--- What comes of bytes and a task: a text, or a refusal. Bytes are no base, or the base tells nothing by the task.
-record Told (bytes : List ℕ) (asked : Task) (x : List ℕ) : Type 0 where
+-- What comes of bytes, of what the further files contain and of a task: a text, or a refusal. Bytes are no base, or something is too
+-- long, or the base tells nothing by the task.
+record Told (bytes : List ℕ) (contents : List (List ℕ)) (asked : Task) (x : List ℕ) : Type 0 where
   set : List Statement
   base : IsBase bytes set
-  tells : Tells asked set x
+  fits : AllFit contents
+  tells : Tells asked set contents x
 
-record Untold (bytes : List ℕ) (asked : Task) (why : TaskRefusal) : Type 0 where
+record Untold (bytes : List ℕ) (contents : List (List ℕ)) (asked : Task) (why : TaskRefusal) : Type 0 where
   set : List Statement
   base : IsBase bytes set
+  fits : AllFit contents
   refuses : RefusesTask asked set why
+
+abbrev Refused : List ℕ → List (List ℕ) → BaseRefusal → Type 0
+Refused bytes contents why = (AllFit contents × RefusesBase bytes why) ⊎ ((why ≡ of_base.Limit) × OneIsOver (bytes ∷ contents))
 
 same_set : KeepLaws → (bytes : List ℕ) (a b : List Statement) → IsBase bytes a → IsBase bytes b → a ≡ b
 same_set laws bytes a b p q = one_set laws bytes a b p.read q.read
 
-one_told : KeepLaws → (bytes : List ℕ) (asked : Task) (x y : List ℕ) → Told bytes asked x → Told bytes asked y → x ≡ y
-one_told laws bytes asked x y a b =
-    let P : List Statement → Type 0 = λ set. Tells asked set x in
-    one_text laws asked b.set x y (subst P (same_set laws bytes a.set b.set a.base b.base) a.tells) b.tells
+one_told : KeepLaws → (bytes : List ℕ) (contents : List (List ℕ)) (asked : Task) (x y : List ℕ) → Told bytes contents asked x → Told bytes contents asked y → x ≡ y
+one_told laws bytes contents asked x y a b =
+    let P : List Statement → Type 0 = λ set. Tells asked set contents x in
+    one_text laws asked b.set contents x y (subst P (same_set laws bytes a.set b.set a.base b.base) a.tells) b.tells
 
-told_or_untold : KeepLaws → (bytes : List ℕ) (asked : Task) (x : List ℕ) (why : TaskRefusal) → Told bytes asked x → Untold bytes asked why → ⊥
-told_or_untold laws bytes asked x why a b =
-    let P : List Statement → Type 0 = λ set. Tells asked set x in
-    told_or_not asked b.set x why (subst P (same_set laws bytes a.set b.set a.base b.base) a.tells) b.refuses
+told_or_untold : KeepLaws → (bytes : List ℕ) (contents : List (List ℕ)) (asked : Task) (x : List ℕ) (why : TaskRefusal) → Told bytes contents asked x → Untold bytes contents asked why → ⊥
+told_or_untold laws bytes contents asked x why a b =
+    let P : List Statement → Type 0 = λ set. Tells asked set contents x in
+    told_or_not asked b.set contents x why (subst P (same_set laws bytes a.set b.set a.base b.base) a.tells) b.refuses
 
-one_untold : KeepLaws → (bytes : List ℕ) (asked : Task) (a b : TaskRefusal) → Untold bytes asked a → Untold bytes asked b → a ≡ b
-one_untold laws bytes asked a b p q =
+one_untold : KeepLaws → (bytes : List ℕ) (contents : List (List ℕ)) (asked : Task) (a b : TaskRefusal) → Untold bytes contents asked a → Untold bytes contents asked b → a ≡ b
+one_untold laws bytes contents asked a b p q =
     let P : List Statement → Type 0 = λ set. RefusesTask asked set a in
     one_reason asked q.set a b (subst P (same_set laws bytes p.set q.set p.base q.base) p.refuses) q.refuses
 
+-- what is a base, with contents that fit, is not refused
+fit_or_refused : KeepLaws → (bytes : List ℕ) (contents : List (List ℕ)) (set : List Statement) (why : BaseRefusal) → IsBase bytes set → AllFit contents → Refused bytes contents why → ⊥
+fit_or_refused laws bytes contents set why base fits (inl refused) = base_or_refused laws bytes set why base refused.1
+fit_or_refused laws bytes contents set why base fits (inr over) = fit_or_over (bytes ∷ contents) (base.read.fits, fits) over.1
+
+-- a refused base, with contents that fit, and something that is too long are one refusal
+fit_or_long : KeepLaws → (bytes : List ℕ) (contents : List (List ℕ)) (a : BaseRefusal) → AllFit contents → RefusesBase bytes a → OneIsOver (bytes ∷ contents) → a ≡ of_base.Limit
+fit_or_long laws bytes contents a fits refuses (inl over) = one_refusal laws bytes a of_base.Limit refuses (inl over)
+fit_or_long laws bytes contents a fits refuses (inr over) = absurd (fit_or_over contents fits over)
+
+one_refused : KeepLaws → (bytes : List ℕ) (contents : List (List ℕ)) (a b : BaseRefusal) → Refused bytes contents a → Refused bytes contents b → a ≡ b
+one_refused laws bytes contents a b (inl p) (inl q) = one_refusal laws bytes a b p.1 q.1
+one_refused laws bytes contents a b (inl p) (inr q) = fit_or_long laws bytes contents a p.0 p.1 q.1 ∙ sym q.0
+one_refused laws bytes contents a b (inr p) (inl q) = p.0 ∙ sym (fit_or_long laws bytes contents b q.0 q.1 p.1)
+one_refused laws bytes contents a b (inr p) (inr q) = p.0 ∙ sym q.0
+
 -- ---- of words, with what the shelf tells
 
--- what was asked for, and what holds of the bytes that the shelf tells of the base
-record Of (told : List ℕ → Option (List ℕ)) (words : List (List ℕ)) (P : List ℕ → Task → Type 0) : Type 0 where
+-- what was asked for, and what holds of the bytes that the shelf tells of the base and of the further files
+record Of (told : List ℕ → Option (List ℕ)) (words : List (List ℕ)) (P : List ℕ → List (List ℕ) → Task → Type 0) : Type 0 where
   asks : Asks words
   bytes : List ℕ
+  contents : List (List ℕ)
   tells : told asks.name ≡ Some bytes
-  holds : P bytes asks.asked
-
-of_told : (P : List ℕ → Type 0) (told : Option (List ℕ)) (bytes : List ℕ) → told ≡ Some bytes → IfSome told P → P bytes
-of_told P told bytes is holds = subst (λ o. IfSome o P) is holds
+  tells_more : AreTold told asks.more contents
+  holds : P bytes contents asks.asked
 
 no_command : (words : List (List ℕ)) → IsNoCommand words → Asks words → ⊥
-no_command words none asks = none asks.name asks.asked asks.command
+no_command words none asks = none asks.name asks.more asks.asked asks.command
 
--- two of the same words hold of the same bytes and task
-both : (told : List ℕ → Option (List ℕ)) (words : List (List ℕ)) (P Q : List ℕ → Task → Type 0) → Of told words P → Of told words Q
-    → (bytes : List ℕ) × (asked : Task) × P bytes asked × Q bytes asked
+-- two of the same words hold of the same bytes, contents and task
+both : (told : List ℕ → Option (List ℕ)) (words : List (List ℕ)) (P Q : List ℕ → List (List ℕ) → Task → Type 0) → Of told words P → Of told words Q
+    → (bytes : List ℕ) × (contents : List (List ℕ)) × (asked : Task) × P bytes contents asked × Q bytes contents asked
 both told words P Q a b =
-    let same = one_command words a.asks.name b.asks.name a.asks.asked b.asks.asked a.asks.command b.asks.command in
+    let same = one_command words a.asks.name b.asks.name a.asks.more b.asks.more a.asks.asked b.asks.asked a.asks.command b.asks.command in
     let bytes = same_Some a.bytes b.bytes (sym a.tells ∙ ap told same.0 ∙ b.tells) in
-    let R : List ℕ → Type 0 = λ these. P these a.asks.asked in
-    let S : Task → Type 0 = λ asked. P b.bytes asked in
-    (b.bytes, b.asks.asked, subst S same.1 (subst R bytes a.holds), b.holds)
+    let M : List (List ℕ) → Type 0 = λ names. AreTold told names a.contents in
+    let contents = one_list told b.asks.more a.contents b.contents (subst M same.1 a.tells_more) b.tells_more in
+    let R : List ℕ → Type 0 = λ these. P these a.contents a.asks.asked in
+    let S : List (List ℕ) → Type 0 = λ these. P b.bytes these a.asks.asked in
+    let T : Task → Type 0 = λ asked. P b.bytes b.contents asked in
+    (b.bytes, b.contents, b.asks.asked, subst T same.2 (subst S contents (subst R bytes a.holds)), b.holds)
 
-answered : (told : List ℕ → Option (List ℕ)) (words : List (List ℕ)) (x : List ℕ) → TellsBase told words → HasAnswer told words x → Of told words (λ bytes asked. Told bytes asked x)
+-- what was read, as the shelf tells it
+record WasRead (told : List ℕ → Option (List ℕ)) (words : List (List ℕ)) (reads : Reads told words) : Type 0 where
+  bytes : List ℕ
+  tells : told reads.asks.name ≡ Some bytes
+  tells_more : AreTold told reads.asks.more reads.contents
+  base : IsBase bytes reads.set
+  fits : AllFit reads.contents
+
+was_read : (told : List ℕ → Option (List ℕ)) (words : List (List ℕ)) → TellsFiles told words → (reads : Reads told words) → WasRead told words reads
+was_read told words tells reads =
+    let ((bytes, is), rest) = tells reads.asks in
+    let (contents, are) = told_contents told reads.asks.more rest in
+    let same : reads.contents ≡ contents = as_told told reads.asks.more reads.contents contents reads.further are in
+    let M : List (List ℕ) → Type 0 = λ these. AreTold told reads.asks.more these in
+    record {
+      bytes = bytes;
+      tells = is;
+      tells_more = subst M (sym same) are;
+      base = of_told (λ b. IsBase b reads.set) (told reads.asks.name) bytes is reads.of_base;
+      fits = read_fits told reads.asks.more reads.contents reads.further;
+    }
+
+answered : (told : List ℕ → Option (List ℕ)) (words : List (List ℕ)) (x : List ℕ) → TellsFiles told words → HasAnswer told words x → Of told words (λ bytes contents asked. Told bytes contents asked x)
 answered told words x tells (reads, text) =
-    let (bytes, is) = tells reads.asks in
-    let base = of_told (λ b. IsBase b reads.set) (told reads.asks.name) bytes is reads.of_base in
-    record { asks = reads.asks; bytes = bytes; tells = is; holds = record { set = reads.set; base = base; tells = text } }
+    let was = was_read told words tells reads in
+    record {
+      asks = reads.asks;
+      bytes = was.bytes;
+      contents = reads.contents;
+      tells = was.tells;
+      tells_more = was.tells_more;
+      holds = record { set = reads.set; base = was.base; fits = was.fits; tells = text };
+    }
 
-then_base : (told : List ℕ → Option (List ℕ)) (words : List (List ℕ)) (why : BaseRefusal) → TellsBase told words → Explains told words (refusal.Base why) → Of told words (λ bytes asked. RefusesBase bytes why)
+refused_as : (told : List ℕ → Option (List ℕ)) (name : List ℕ) (names : List (List ℕ)) (bytes : List ℕ) (contents : List (List ℕ)) (why : BaseRefusal) → told name ≡ Some bytes
+    → AreTold told names contents → (NoneIsLong told names × IfSome (told name) (λ b. RefusesBase b why)) ⊎ ((why ≡ of_base.Limit) × OneIsLong told (name ∷ names))
+    → Refused bytes contents why
+refused_as told name names bytes contents why is are (inl refuses) = inl (told_fits told names contents refuses.0 are, of_told (λ b. RefusesBase b why) (told name) bytes is refuses.1)
+refused_as told name names bytes contents why is are (inr long) = inr (long.0, told_over told (name ∷ names) (bytes ∷ contents) long.1 (is, are))
+
+then_base : (told : List ℕ → Option (List ℕ)) (words : List (List ℕ)) (why : BaseRefusal) → TellsFiles told words → Explains told words (refusal.Base why)
+    → Of told words (λ bytes contents asked. Refused bytes contents why)
 then_base told words why tells (asks, refuses) =
-    let (bytes, is) = tells asks in
-    record { asks = asks; bytes = bytes; tells = is; holds = of_told (λ b. RefusesBase b why) (told asks.name) bytes is refuses }
+    let ((bytes, is), rest) = tells asks in
+    let (contents, are) = told_contents told asks.more rest in
+    record { asks = asks; bytes = bytes; contents = contents; tells = is; tells_more = are; holds = refused_as told asks.name asks.more bytes contents why is are refuses }
 
-then_task : (told : List ℕ → Option (List ℕ)) (words : List (List ℕ)) (why : TaskRefusal) → TellsBase told words → Explains told words (refusal.Task why) → Of told words (λ bytes asked. Untold bytes asked why)
+then_task : (told : List ℕ → Option (List ℕ)) (words : List (List ℕ)) (why : TaskRefusal) → TellsFiles told words → Explains told words (refusal.Task why)
+    → Of told words (λ bytes contents asked. Untold bytes contents asked why)
 then_task told words why tells (reads, refuses) =
-    let (bytes, is) = tells reads.asks in
-    let base = of_told (λ b. IsBase b reads.set) (told reads.asks.name) bytes is reads.of_base in
-    record { asks = reads.asks; bytes = bytes; tells = is; holds = record { set = reads.set; base = base; refuses = refuses } }
+    let was = was_read told words tells reads in
+    record {
+      asks = reads.asks;
+      bytes = was.bytes;
+      contents = reads.contents;
+      tells = was.tells;
+      tells_more = was.tells_more;
+      holds = record { set = reads.set; base = was.base; fits = was.fits; refuses = refuses };
+    }
 
 -- an answer is the one answer
-one_of_answers : KeepLaws → (told : List ℕ → Option (List ℕ)) (words : List (List ℕ)) (x y : List ℕ) → TellsBase told words → HasAnswer told words x → HasAnswer told words y → x ≡ y
+one_of_answers : KeepLaws → (told : List ℕ → Option (List ℕ)) (words : List (List ℕ)) (x y : List ℕ) → TellsFiles told words → HasAnswer told words x → HasAnswer told words y → x ≡ y
 one_of_answers laws told words x y tells a b =
-    let (bytes, asked, these, those) = both told words (λ bytes asked. Told bytes asked x) (λ bytes asked. Told bytes asked y) (answered told words x tells a) (answered told words y tells b) in
-    one_told laws bytes asked x y these those
+    let (bytes, contents, asked, these, those) = both told words (λ bytes contents asked. Told bytes contents asked x) (λ bytes contents asked. Told bytes contents asked y) (answered told words x tells a) (answered told words y tells b) in
+    one_told laws bytes contents asked x y these those
 
 -- whether a refusal follows from the words and from what the shelf told
 abbrev is_reason : Refusal → Bool
@@ -148,35 +190,35 @@ is_reason refusal.ReadFault = false
 is_reason _ = true
 
 -- what has an answer is not refused
-not_refused : KeepLaws → (told : List ℕ → Option (List ℕ)) (words : List (List ℕ)) (x : List ℕ) (why : Refusal) → TellsBase told words → is_reason why ≡ true → HasAnswer told words x → Explains told words why → ⊥
+not_refused : KeepLaws → (told : List ℕ → Option (List ℕ)) (words : List (List ℕ)) (x : List ℕ) (why : Refusal) → TellsFiles told words → is_reason why ≡ true → HasAnswer told words x → Explains told words why → ⊥
 not_refused laws told words x refusal.Usage tells is answer none = no_command words none answer.0.asks
 not_refused laws told words x refusal.ReadFault tells is answer why = let same : false ≡ true = is in absurd cc
 not_refused laws told words x (refusal.Base why) tells is answer refuses =
-    let (bytes, asked, told_it, refused) = both told words (λ bytes asked. Told bytes asked x) (λ bytes asked. RefusesBase bytes why) (answered told words x tells answer) (then_base told words why tells refuses) in
-    base_or_refused laws bytes told_it.set why told_it.base refused
+    let (bytes, contents, asked, told_it, refused) = both told words (λ bytes contents asked. Told bytes contents asked x) (λ bytes contents asked. Refused bytes contents why) (answered told words x tells answer) (then_base told words why tells refuses) in
+    fit_or_refused laws bytes contents told_it.set why told_it.base told_it.fits refused
 not_refused laws told words x (refusal.Task why) tells is answer refuses =
-    let (bytes, asked, told_it, untold) = both told words (λ bytes asked. Told bytes asked x) (λ bytes asked. Untold bytes asked why) (answered told words x tells answer) (then_task told words why tells refuses) in
-    told_or_untold laws bytes asked x why told_it untold
+    let (bytes, contents, asked, told_it, untold) = both told words (λ bytes contents asked. Told bytes contents asked x) (λ bytes contents asked. Untold bytes contents asked why) (answered told words x tells answer) (then_task told words why tells refuses) in
+    told_or_untold laws bytes contents asked x why told_it untold
 
 -- bytes that are refused are no base of which a task tells nothing
-refused_or_untold : KeepLaws → (told : List ℕ → Option (List ℕ)) (words : List (List ℕ)) (a : BaseRefusal) (b : TaskRefusal) → TellsBase told words
+refused_or_untold : KeepLaws → (told : List ℕ → Option (List ℕ)) (words : List (List ℕ)) (a : BaseRefusal) (b : TaskRefusal) → TellsFiles told words
     → Explains told words (refusal.Base a) → Explains told words (refusal.Task b) → ⊥
 refused_or_untold laws told words a b tells p q =
-    let (bytes, asked, refused, untold) = both told words (λ bytes asked. RefusesBase bytes a) (λ bytes asked. Untold bytes asked b) (then_base told words a tells p) (then_task told words b tells q) in
-    base_or_refused laws bytes untold.set a untold.base refused
+    let (bytes, contents, asked, refused, untold) = both told words (λ bytes contents asked. Refused bytes contents a) (λ bytes contents asked. Untold bytes contents asked b) (then_base told words a tells p) (then_task told words b tells q) in
+    fit_or_refused laws bytes contents untold.set a untold.base untold.fits refused
 
-one_base : KeepLaws → (told : List ℕ → Option (List ℕ)) (words : List (List ℕ)) (a b : BaseRefusal) → TellsBase told words → Explains told words (refusal.Base a) → Explains told words (refusal.Base b) → a ≡ b
+one_base : KeepLaws → (told : List ℕ → Option (List ℕ)) (words : List (List ℕ)) (a b : BaseRefusal) → TellsFiles told words → Explains told words (refusal.Base a) → Explains told words (refusal.Base b) → a ≡ b
 one_base laws told words a b tells p q =
-    let (bytes, asked, these, those) = both told words (λ bytes asked. RefusesBase bytes a) (λ bytes asked. RefusesBase bytes b) (then_base told words a tells p) (then_base told words b tells q) in
-    one_refusal laws bytes a b these those
+    let (bytes, contents, asked, these, those) = both told words (λ bytes contents asked. Refused bytes contents a) (λ bytes contents asked. Refused bytes contents b) (then_base told words a tells p) (then_base told words b tells q) in
+    one_refused laws bytes contents a b these those
 
-one_task : KeepLaws → (told : List ℕ → Option (List ℕ)) (words : List (List ℕ)) (a b : TaskRefusal) → TellsBase told words → Explains told words (refusal.Task a) → Explains told words (refusal.Task b) → a ≡ b
+one_task : KeepLaws → (told : List ℕ → Option (List ℕ)) (words : List (List ℕ)) (a b : TaskRefusal) → TellsFiles told words → Explains told words (refusal.Task a) → Explains told words (refusal.Task b) → a ≡ b
 one_task laws told words a b tells p q =
-    let (bytes, asked, these, those) = both told words (λ bytes asked. Untold bytes asked a) (λ bytes asked. Untold bytes asked b) (then_task told words a tells p) (then_task told words b tells q) in
-    one_untold laws bytes asked a b these those
+    let (bytes, contents, asked, these, those) = both told words (λ bytes contents asked. Untold bytes contents asked a) (λ bytes contents asked. Untold bytes contents asked b) (then_task told words a tells p) (then_task told words b tells q) in
+    one_untold laws bytes contents asked a b these those
 
 -- one refusal explains why there is no answer
-one_reason_alone : KeepLaws → (told : List ℕ → Option (List ℕ)) (words : List (List ℕ)) (a b : Refusal) → TellsBase told words → is_reason a ≡ true → is_reason b ≡ true
+one_reason_alone : KeepLaws → (told : List ℕ → Option (List ℕ)) (words : List (List ℕ)) (a b : Refusal) → TellsFiles told words → is_reason a ≡ true → is_reason b ≡ true
     → Explains told words a → Explains told words b → a ≡ b
 one_reason_alone laws told words refusal.ReadFault b tells is is' p q = let same : false ≡ true = is in absurd cc
 one_reason_alone laws told words a refusal.ReadFault tells is is' p q = let same : false ≡ true = is' in absurd cc
@@ -214,13 +256,13 @@ reason_of s refusal.ReadFault is same = let never : false ≡ true = sym (ap is_
 reason_of s (refusal.Base why) is same = refl
 reason_of s (refusal.Task why) is same = refl
 
-two_refused : KeepLaws → (told : List ℕ → Option (List ℕ)) (words : List (List ℕ)) (s t : Status) (x y : List ℕ) → TellsBase told words → IsTrue (is_answer s) → IsTrue (is_answer t)
+two_refused : KeepLaws → (told : List ℕ → Option (List ℕ)) (words : List (List ℕ)) (s t : Status) (x y : List ℕ) → TellsFiles told words → IsTrue (is_answer s) → IsTrue (is_answer t)
     → IsRefused told words s x → IsRefused told words t y → (s ≡ t) × (x ≡ y)
 two_refused laws told words s t x y tells is is' a b =
     let same = one_reason_alone laws told words a.why b.why tells (reason_of s a.why is a.status) (reason_of t b.why is' b.status) a.explains b.explains in
     (a.status ∙ ap status_of same ∙ sym b.status, a.line ∙ ap line_of same ∙ sym b.line)
 
-two_found : KeepLaws → (told : List ℕ → Option (List ℕ)) (words : List (List ℕ)) (s t : Status) (x y : List ℕ) → TellsBase told words → IsTrue (is_answer s) → IsTrue (is_answer t)
+two_found : KeepLaws → (told : List ℕ → Option (List ℕ)) (words : List (List ℕ)) (s t : Status) (x y : List ℕ) → TellsFiles told words → IsTrue (is_answer s) → IsTrue (is_answer t)
     → Found told words s x → Found told words t y → (s ≡ t) × (x ≡ y)
 two_found laws told words s t x y tells is is' (inl a) (inl b) = (a.0 ∙ sym b.0, one_of_answers laws told words x y tells a.1 b.1)
 two_found laws told words s t x y tells is is' (inl a) (inr b) = absurd (not_refused laws told words x b.why tells (reason_of t b.why is' b.status) a.1 b.explains)
@@ -228,6 +270,6 @@ two_found laws told words s t x y tells is is' (inr a) (inl b) = absurd (not_ref
 two_found laws told words s t x y tells is is' (inr a) (inr b) = two_refused laws told words s t x y tells is is' a b
 
 -- what the words ask for, and what the shelf tells of it, have one status and one text
-pub one_answer : KeepLaws → (told : List ℕ → Option (List ℕ)) (words : List (List ℕ)) (a b : Status) (x y : List ℕ) → TellsBase told words → IsTrue (is_answer a) → IsTrue (is_answer b)
+pub one_answer : KeepLaws → (told : List ℕ → Option (List ℕ)) (words : List (List ℕ)) (a b : Status) (x y : List ℕ) → TellsFiles told words → IsTrue (is_answer a) → IsTrue (is_answer b)
     → Answers told words a x → Answers told words b y → (a ≡ b) × (x ≡ y)
 one_answer laws told words a b x y tells is is' p q = two_found laws told words a b x y tells is is' (found told words a x is p) (found told words b y is' q)

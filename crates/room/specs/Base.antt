@@ -8,7 +8,7 @@ use Rattle.room.specs.declared.refusal.BaseRefusal.{BaseRefusal}
 use Rattle.room.specs.declared.refusal.BaseRefusal.TheVariants as refusal
 use Rattle.statement_set.specs.Set.{IsSetOf, most_statements}
 
--- the most bytes that a base may have
+-- the most bytes that a base may have, and each further file that a command names
 abbrev pub base_limit : ℕ
 base_limit = 268435456
 

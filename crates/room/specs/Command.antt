@@ -1,8 +1,9 @@
 -- The words of the command line, of this project.
-use Rattle.std.specs.Prelude.{ℕ, ◌≡◌, ◌≢◌, List, [], ◌∷◌, Some, codes, false}
+use Rattle.std.specs.Prelude.{ℕ, ◌≡◌, ◌≢◌, List, [], ◌∷◌, Some, codes, false, option_map, option_to_list}
 use Rattle.cim_words.specs.IdText.{plain_number}
 use Rattle.cim_words.specs.Phases.{phase_text, has_no_phase}
 use Rattle.cim_words.specs.declared.phases.PhaseSet.{PhaseSet}
+use Rattle.room.specs.declared.command.Asked.{Asked}
 use Rattle.room.specs.declared.task.Task.{Task}
 use Rattle.room.specs.declared.task.Task.TheVariants as task
 
@@ -24,7 +25,18 @@ pub record IsCheckCommand (words : List (List ℕ)) (name : List ℕ) : Type 0 w
   pub two_words : words ≡ codes "check" ∷ name ∷ []
   pub file : IsFileName name
 
--- the words ask for a task over a base
-abbrev pub IsCommand : List (List ℕ) → List ℕ → Task → Type 0
-IsCommand words name task.Check = IsCheckCommand words name
-IsCommand words name (task.Trace source phases) = IsTraceCommand words name source.number phases
+-- the words are `script BASE SCRIPT`: two file names
+pub record IsScriptCommand (words : List (List ℕ)) (name script : List ℕ) : Type 0 where
+  pub three_words : words ≡ codes "script" ∷ name ∷ script ∷ []
+  pub file : IsFileName name
+  pub script_file : IsFileName script
+
+-- the words ask for a task over a base and over further files, which are a script's where one is played
+abbrev pub IsCommand : List (List ℕ) → List ℕ → List (List ℕ) → Task → Type 0
+IsCommand words name more task.Check = IsCheckCommand words name × (more ≡ [])
+IsCommand words name more (task.Trace source phases) = IsTraceCommand words name source.number phases × (more ≡ [])
+IsCommand words name more task.Play = (script : List ℕ) × IsScriptCommand words name script × (more ≡ script ∷ [])
+
+-- the names of the further files of what is asked for
+abbrev pub further_names : Asked → List (List ℕ)
+further_names asked = option_to_list (option_map (λ name. name.now) asked.script)

@@ -1,6 +1,8 @@
 pub mod Base
 pub mod CheckText
 pub mod Command
+pub mod Ending
+pub mod Files
 pub mod Refusal
 pub mod RefusalLine
 pub mod Run

@@ -22,7 +22,7 @@ abbrev pub mapped : {R S : Type 0} → (R → S) → Failure R → Failure S
 mapped f (failure.Refusal why) = failure.Refusal (f why)
 mapped f failure.NoMemory = failure.NoMemory
 
--- a read that failed, or found more bytes than a base has
+-- a read that failed, or found more bytes than a file may have
 abbrev pub failure_of_read : ShelfFault → Failure Refusal
 failure_of_read fault.Failed = failure.Refusal refusal.ReadFault
 failure_of_read fault.Longer = failure.Refusal (refusal.Base base.Limit)

@@ -3,19 +3,33 @@
 ghost use Rattle.std.specs.Prelude.{◌≡◌, ◌↔◌, ℕ, List, [], ◌∷◌, map, string_bytes, IsTrue, IfSome, IsSomeAnd};
 ghost use Rattle.cim_words.specs.declared.phases.PhaseSet.{PhaseSet};
 ghost use Rattle.room.specs.declared.task.Task.{Task};
-ghost use Rattle.room.specs.Command.{IsFileName, IsCommand, IsTraceCommand};
+ghost use Rattle.room.specs.Command.{IsFileName, IsCommand, further_names};
 
 use crate::task::Task;
 use cim_words::{Id, PhaseSet};
 
-/// The base's file name and the task of `check BASE` or `trace BASE SOURCE PHASES`.
-pub(crate) fn command(words: &[String]) -> Option<(&str, Task)>
-    ensures found { IfSome result (λ x. IsCommand (map string_bytes words.now) x.0.now x.1) }
-    ensures only { (name : List ℕ) (task : Task) → IsCommand (map string_bytes words.now) name task
-        → IsSomeAnd result (λ x. (x.0.now ≡ name) × (x.1 ≡ task)) }
+/// What the words ask for.
+#[derive(Clone, Copy)]
+pub(crate) struct Asked<'a> {
+    /// The name of the base's file.
+    pub(crate) base: &'a str,
+    /// The name of the further file that the task wants, if it wants one.
+    pub(crate) script: Option<&'a str>,
+    /// What is asked of the base.
+    pub(crate) task: Task,
+}
+
+/// What the words ask for: `check BASE`, `trace BASE SOURCE PHASES` or `script BASE SCRIPT`.
+pub(crate) fn command(words: &[String]) -> Option<Asked<'_>>
+    ensures found { IfSome result (λ x. IsCommand (map string_bytes words.now) x.base.now (further_names x) x.task) }
+    ensures only { (name : List ℕ) (more : List (List ℕ)) (task : Task) → IsCommand (map string_bytes words.now) name more task
+        → IsSomeAnd result (λ x. (x.base.now ≡ name) × (further_names x ≡ more) × (x.task ≡ task)) }
 {
     match words {
         [command, base] => check_words(command.as_str(), base.as_str()),
+        [command, base, script] => {
+            script_words(command.as_str(), base.as_str(), script.as_str())
+        }
         [command, base, source, phases] => trace_words(
             command.as_str(),
             base.as_str(),
@@ -26,26 +40,40 @@ pub(crate) fn command(words: &[String]) -> Option<(&str, Task)>
     }
 }
 
-fn check_words<'a>(command: &str, base: &'a str) -> Option<(&'a str, Task)>
-    ensures found { IfSome result (λ x. IsCommand (command.now ∷ base.now ∷ []) x.0.now x.1) }
-    ensures only { (name : List ℕ) (task : Task) → IsCommand (command.now ∷ base.now ∷ []) name task
-        → IsSomeAnd result (λ x. (x.0.now ≡ name) × (x.1 ≡ task)) }
+fn check_words<'a>(command: &str, base: &'a str) -> Option<Asked<'a>>
+    ensures found { IfSome result (λ x. IsCommand (command.now ∷ base.now ∷ []) x.base.now (further_names x) x.task) }
+    ensures only { (name : List ℕ) (more : List (List ℕ)) (task : Task) → IsCommand (command.now ∷ base.now ∷ []) name more task
+        → IsSomeAnd result (λ x. (x.base.now ≡ name) × (further_names x ≡ more) × (x.task ≡ task)) }
 {
     if command != "check" || !is_file_name(base) {
         return None;
     }
-    Some((base, Task::Check))
+    Some(Asked {
+        base,
+        script: None,
+        task: Task::Check,
+    })
 }
 
-fn trace_words<'a>(
-    command: &str,
-    base: &'a str,
-    source: &str,
-    phases: &str,
-) -> Option<(&'a str, Task)>
-    ensures found { IfSome result (λ x. IsCommand (command.now ∷ base.now ∷ source.now ∷ phases.now ∷ []) x.0.now x.1) }
-    ensures only { (name : List ℕ) (task : Task) → IsCommand (command.now ∷ base.now ∷ source.now ∷ phases.now ∷ []) name task
-        → IsSomeAnd result (λ x. (x.0.now ≡ name) × (x.1 ≡ task)) }
+fn script_words<'a>(command: &str, base: &'a str, script: &'a str) -> Option<Asked<'a>>
+    ensures found { IfSome result (λ x. IsCommand (command.now ∷ base.now ∷ script.now ∷ []) x.base.now (further_names x) x.task) }
+    ensures only { (name : List ℕ) (more : List (List ℕ)) (task : Task) → IsCommand (command.now ∷ base.now ∷ script.now ∷ []) name more task
+        → IsSomeAnd result (λ x. (x.base.now ≡ name) × (further_names x ≡ more) × (x.task ≡ task)) }
+{
+    if command != "script" || !is_file_name(base) || !is_file_name(script) {
+        return None;
+    }
+    Some(Asked {
+        base,
+        script: Some(script),
+        task: Task::Play,
+    })
+}
+
+fn trace_words<'a>(command: &str, base: &'a str, source: &str, phases: &str) -> Option<Asked<'a>>
+    ensures found { IfSome result (λ x. IsCommand (command.now ∷ base.now ∷ source.now ∷ phases.now ∷ []) x.base.now (further_names x) x.task) }
+    ensures only { (name : List ℕ) (more : List (List ℕ)) (task : Task) → IsCommand (command.now ∷ base.now ∷ source.now ∷ phases.now ∷ []) name more task
+        → IsSomeAnd result (λ x. (x.base.now ≡ name) × (further_names x ≡ more) × (x.task ≡ task)) }
 {
     if command != "trace" || !is_file_name(base) {
         return None;
@@ -53,10 +81,13 @@ fn trace_words<'a>(
     let source = Id::read_plain(source).ok()?;
     let phases = PhaseSet::read_text(phases).ok()?;
     if phases.is_empty() {
-        None
-    } else {
-        Some((base, Task::Trace { source, phases }))
+        return None;
     }
+    Some(Asked {
+        base,
+        script: None,
+        task: Task::Trace { source, phases },
+    })
 }
 
 /// Whether a word names a file.

@@ -1,11 +1,13 @@
-//! Traces which equipment of a distribution network is reachable per phase from a source.
+//! Traces which equipment of a distribution network is reachable per phase from a source, and plays scripts of switching over it.
 #![tactic(auto)]
 
 mod answer;
 mod base;
 mod check_text;
 mod command;
+mod commands;
 mod file_shelf;
+mod files;
 mod laws;
 mod out_sink;
 mod process;
@@ -14,6 +16,7 @@ mod refusal_line;
 mod run;
 mod status;
 mod task;
+mod telling;
 mod trace_text;
 mod tracing;
 

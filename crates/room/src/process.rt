@@ -4,9 +4,8 @@ ghost use Rattle.std.specs.Prelude.{◌≡◌, ◌⊎◌, ℕ, List, [], map, dr
 ghost use Rattle.std.specs.Vec.Iter.{into_iter_items};
 ghost use Rattle.grid_out.specs.Faults.{CountsFaults};
 ghost use Rattle.grid_out.specs.Shelf.{AsksFor};
-ghost use Rattle.grid_out.specs.Sink.{Hands};
 ghost use Rattle.room.specs.declared.status.Status.{Status};
-ghost use Rattle.room.specs.Run.{Answers, AreNames, Writes, is_read_fault, pieces_of};
+ghost use Rattle.room.specs.Run.{Answers, AreNames, IsHanded, Writes, is_read_fault};
 ghost use Rattle.room.specs.Status.{status_code};
 
 use crate::run::run_plain;
@@ -30,8 +29,8 @@ pub fn run_code<F: Shelf, K: Sink>(
         × (status : Status) × (result ≡ status_code status)
         × ((text : List ℕ) × Answers (F.content shelf.old) words status text
         × Writes status (K.written out.old) (K.written out.new) (K.faults out.old) (K.faults out.new) text
-        × Hands (K.handed out.old) (K.handed out.new) (pieces_of status text))
-        × ((names : List (List ℕ)) × (AreNames words names ⊎ ((status ≡ Status.NoMemory) × (names ≡ [])))
+        × IsHanded words status text (K.handed out.old) (K.handed out.new))
+        × ((names : List (List ℕ)) × (AreNames words status names ⊎ ((status ≡ Status.NoMemory) × (names ≡ [])))
         × AsksFor (F.asked shelf.old) (F.asked shelf.new) names)
         × CountsFaults (F.faults shelf.old) (F.faults shelf.new) (is_read_fault status) }
 {

@@ -38,9 +38,9 @@ pub enum TaskRefusal {
 pub enum Refusal {
     /// They are no command.
     Usage,
-    /// The base that they name could not be read.
+    /// A file that they name could not be read.
     ReadFault,
-    /// What they name is no base.
+    /// What they name is no base, or a file that they name is longer than a base may be.
     Base(BaseRefusal),
     /// They ask the base for what it does not tell.
     Task(TaskRefusal),

@@ -1,10 +1,10 @@
 //! A run of the program, from its words to its output.
 
-ghost use Rattle.std.specs.Prelude.{◌≡◌, ◌≢◌, ◌⊎◌, ℕ, List, [], ◌∷◌, map, string_bytes};
+ghost use Rattle.std.specs.Prelude.{◌≡◌, ◌≢◌, ◌⊎◌, ℕ, List, [], map, string_bytes};
 ghost use Rattle.grid_out.specs.Faults.{CountsFaults};
 ghost use Rattle.grid_out.specs.Shelf.{AsksFor};
 ghost use Rattle.grid_out.specs.Sink.{Gains, Hands};
-ghost use Rattle.room.specs.Run.{Answers, AreNames, GainsAtMost, Writes, is_read_fault, pieces_of};
+ghost use Rattle.room.specs.Run.{Answers, AreNames, GainsAtMost, IsHanded, Writes, is_read_fault, pieces_of};
 ghost use Rattle.room.specs.Status.{line_of, status_of};
 
 use crate::answer::answer;
@@ -21,34 +21,23 @@ pub fn run_plain<F: Shelf, K: Sink>(
     shelf: &mut F,
     out: &mut K,
 ) -> Status
-    // The status and what was written follow from the words and from what the shelf told. The text is handed to the output once.
+    // The status and what was written follow from the words and from what the shelf told. The text is handed to the output once, or in
+    // pieces as a script is played.
     ensures says { (text : List ℕ) × Answers (F.content shelf.old) (map string_bytes words.now) result text
         × Writes result (K.written out.old) (K.written out.new) (K.faults out.old) (K.faults out.new) text
-        × Hands (K.handed out.old) (K.handed out.new) (pieces_of result text) }
+        × IsHanded (map string_bytes words.now) result text (K.handed out.old) (K.handed out.new) }
 
-    // The shelf was asked for the files that the words name, each once, and for nothing else.
-    ensures asks { (names : List (List ℕ)) × AreNames (map string_bytes words.now) names × AsksFor (F.asked shelf.old) (F.asked shelf.new) names }
+    // The shelf was asked for the files that the words name, each once and in their order, and for nothing else.
+    ensures asks { (names : List (List ℕ)) × AreNames (map string_bytes words.now) result names × AsksFor (F.asked shelf.old) (F.asked shelf.new) names }
 
     // A fault of the shelf is answered exactly where there was one in this call.
     ensures read_fault { CountsFaults (F.faults shelf.old) (F.faults shelf.new) (is_read_fault result) }
     ensures kept { (name : List ℕ) → F.content shelf.new name ≡ F.content shelf.old name }
 {
-    match answer(alloc, words, shelf) {
-        Ok(text) => tell(&text, out),
+    match answer(alloc, words, shelf, out) {
+        Ok(status) => status,
         Err(Failure::Refusal(refusal)) => refuse(alloc, refusal, out),
         Err(Failure::NoMemory) => Status::NoMemory,
-    }
-}
-
-/// Writes the text that was asked for.
-fn tell<K: Sink>(text: &[u8], out: &mut K) -> Status
-    ensures writes { ((result ≡ Status.Ok) × Writes Status.Ok (K.written out.old) (K.written out.new) (K.faults out.old) (K.faults out.new) text.now)
-        ⊎ ((result ≡ Status.WriteFault) × Writes Status.WriteFault (K.written out.old) (K.written out.new) (K.faults out.old) (K.faults out.new) text.now) }
-    ensures hands { Hands (K.handed out.old) (K.handed out.new) (text.now ∷ []) }
-{
-    match out.write_all(text) {
-        Ok(()) => Status::Ok,
-        Err(_) => Status::WriteFault,
     }
 }
 

@@ -14,9 +14,9 @@ pub enum Status {
     Ok,
     /// The words are no command.
     Usage,
-    /// The base could not be read.
+    /// A file could not be read.
     ReadFault,
-    /// The base has more bytes or more different statements than this program takes.
+    /// A file has more bytes, or the base has more different statements, than this program takes.
     Limit,
     /// A line of the base, counted from 1, is refused.
     Document {

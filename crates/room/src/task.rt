@@ -14,4 +14,6 @@ pub enum Task {
         /// The phases in which it begins.
         phases: PhaseSet,
     },
+    /// What a script is answered over it.
+    Play,
 }

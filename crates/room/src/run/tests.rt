@@ -6,6 +6,7 @@ mod classes;
 mod ieee_13_node;
 mod networks;
 mod plain;
+mod scripts;
 
 use super::*;
 use cim_words::NoMemory;

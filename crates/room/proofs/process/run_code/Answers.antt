@@ -16,4 +16,4 @@ returns-in-Ok g c =
 pub returns-in-Err : goal.returns-in-Err
 returns-in-Err g c =
     let (words, given) = some_words c.args.args (λ all. map string_bytes (drop 1 (into_iter_items all))) in
-    (words, given, status.NoMemory, c.code-in-Err.ensures, ([], refl, (gains_nothing _, refl), grows_nothing _), ([], inr (refl, refl), grows_nothing _), counts_none _)
+    (words, given, status.NoMemory, c.code-in-Err.ensures, ([], inl refl, (gains_nothing _, refl), inl (refl, grows_nothing _)), ([], inr (refl, refl), grows_nothing _), counts_none _)

@@ -1,0 +1,7 @@
+pub mod Answers
+pub mod Lines
+pub mod Played
+pub mod Rehearsal
+pub mod Sending
+pub mod Staging
+pub mod Turns

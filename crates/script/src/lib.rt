@@ -1,0 +1,18 @@
+//! Scripts: the requests of up to sixteen consoles, in the order in which they are made, on a room of one thread.
+#![tactic(auto)]
+
+mod answers;
+mod fault;
+mod history;
+mod laws;
+mod line;
+mod output;
+mod playing;
+mod rehearsal;
+mod staging;
+mod turns;
+
+pub use cim_words::NoMemory;
+pub use fault::PlayFault;
+pub use laws::scripts_have_one_answer;
+pub use playing::play;
