@@ -1,7 +1,7 @@
 -- Items by number in pages that are filled.
 use Rattle.std.proofs.Common.{◌≡◌, ℕ, zero, suc, ◌+◌, ◌-◌, ◌*◌, ◌/◌, ◌%◌, ◌<◌, ◌≤◌, List, [], ◌∷◌, ◌++◌, length, get_or, set, refl, ap, sym, ◌∙◌, arith, length-append}
 use Rattle.std.proofs.Math.Nat.{mul-suc, div-add-mod, mod-lt}
-use Rattle.std.proofs.lemmas.Grind.{common_steps, flat_map-append}
+use Rattle.std.proofs.lemmas.Grind.{flat_map-append}
 use Rattle.std.proofs.lemmas.List.{get_or_append_left, get_or-append_right, set-append_left, set-append_right, length-set}
 use Rattle.std.specs.List.{flat_map}
 use Rattle.shared_parts.specs.Pages.{AreFilled}
@@ -53,7 +53,7 @@ module _ {P X : Type 0} (items : P → List X) (full : ℕ) where
       ∙ sym (set-append_right (items page) (flat_map items pages) full (full * suc place + index) x (filled.1 (grind arith)) (grind (arith, mul-suc full place)) ∙ ap (λ k. items page ++ set (flat_map items pages) k x) e)
 
   -- Pages stay filled where one gives way to another with as many items.
-  pub stay_filled : (pages : List P) (place : ℕ) (d page' : P) → AreFilled items full pages → length (items page') ≡ length (items (get_or pages place d)) → AreFilled items full (set pages place page')
+  stay_filled : (pages : List P) (place : ℕ) (d page' : P) → AreFilled items full pages → length (items page') ≡ length (items (get_or pages place d)) → AreFilled items full (set pages place page')
   stay_filled [] place d page' filled same = tt
   stay_filled (page ∷ pages) zero d page' filled same = (grind arith, λ h. same ∙ filled.1 h, filled.2)
   stay_filled (page ∷ pages) (suc place) d page' filled same =
@@ -103,3 +103,6 @@ module _ {P X : Type 0} (items : P → List X) (full : ℕ) (pages : List P) (li
 
   pub item_sets : (d page' : P) (x : X) → items page' ≡ set (items (get_or pages (i / n) d)) (i % n) x → flat_map items (set pages (i / n) page') ≡ set list i x
   item_sets d page' x is = item_set items full pages (i / n) (i % n) d page' x filled fits within_split is ∙ rw (split, held) refl
+
+  pub pages_stay : (d page' : P) (x : X) → items page' ≡ set (items (get_or pages (i / n) d)) (i % n) x → AreFilled items full (set pages (i / n) page')
+  pages_stay d page' x is = stay_filled items full pages (i / n) d page' filled (ap length is ∙ length-set (items (get_or pages (i / n) d)) (i % n) x)

@@ -1,6 +1,6 @@
 //! Pages of pages.
 
-ghost use Rattle.std.specs.Prelude.{◌≡◌, ◌+◌, ◌*◌, ◌-◌, ◌^◌, ◌≤◌, ◌<◌, ◌++◌, length, min, slice_index_or, slice_set, IfOk, OnOk};
+ghost use Rattle.std.specs.Prelude.{◌≡◌, ◌+◌, ◌*◌, ◌≤◌, ◌<◌, ◌++◌, length, IfOk, OnOk};
 ghost use Rattle.std.specs.Vec.Iter.{into_iter_items, into_iter_len};
 
 use crate::page::Page;
@@ -12,10 +12,11 @@ use std::sync::ledger::Ledger;
 use std::vec::IntoIter;
 use step_count::Steps;
 
-/// How many pages a page of pages holds.
+/// How many pages a full page of pages has.
 const WIDTH: usize = 32;
 
-/// Pages that follow each other. Contracts see them as the list of their items.
+/// Pages that follow each other. All but the last are full. Contracts see them as the list of their items.
+// It holds pages of another type and not of its own, so that it may cross threads where its items may.
 #[derive(Drop)]
 pub(crate) struct Row<T, P: Page<T>> {
     pages: Arc<Vec<P>>,
@@ -35,35 +36,9 @@ impl<T, P: Page<T>> Model for Row<T, P> {
     ghost invariant = { λ row. AreFilled P.items P.full (arc_value row.pages).items };
 }
 
-impl<T, P: Page<T>> Row<T, P> {
-    /// The item at an index.
-    pub(crate) fn at(&self, index: usize) -> &T
-        requires { index < length self.now }
-        ensures { result.now ≡ slice_index_or self.now index result.now }
-    {
-        let full = P::full_len();
-        self.pages[index / full].at(index % full)
-    }
-}
-
 impl<T: Drop, P: Page<T>> Row<T, P> {
-    /// The row with one item set. It shares all its pages but one with this row, which keeps its items.
-    pub(crate) fn with(&self, alloc: Global, index: usize, item: T) -> Result<Self, NoMemory>
-        requires { index < length self.now }
-        ensures { IfOk result (λ row. row ≡ slice_set self.now index item) }
-    {
-        let full = P::full_len();
-        let page = self.pages[index / full].with(alloc, index % full, item)?;
-        let mut pages = shares(alloc, &self.pages)?;
-        pages[index / full] = page;
-        Ok(Row {
-            pages: Arc::new(alloc, pages)?,
-            of: PhantomData,
-        })
-    }
-
-    /// The next items, in full pages as long as there are enough, one tick for each. There are at most as many pages as `width` says.
-    pub(crate) fn of_next<L: Ledger>(
+    /// The next items in at most so many pages, one tick for each item. It leaves some only where all its pages are full.
+    pub(crate) fn of_width<L: Ledger>(
         alloc: Global,
         width: usize,
         rest: &mut IntoIter<T>,
@@ -72,7 +47,6 @@ impl<T: Drop, P: Page<T>> Row<T, P> {
         ensures taken { IfOk result (λ row. row ++ into_iter_items rest.new ≡ into_iter_items rest.old) }
         ensures most { IfOk result (λ row. length row ≤ P.full * width) }
         ensures full { IfOk result (λ row. 0 < into_iter_len rest.new → length row ≡ P.full * width) }
-        ensures all { OnOk result (into_iter_len rest.old ≤ width → into_iter_len rest.new ≡ 0) }
         ensures ticks { OnOk result (steps.new + into_iter_len rest.new ≡ steps.old + into_iter_len rest.old) }
         ensures bound { steps.new ≤ steps.old + into_iter_len rest.old }
     {
@@ -90,7 +64,7 @@ impl<T: Drop, P: Page<T>> Row<T, P> {
     }
 }
 
-/// Shares of all pages.
+/// Shares of pages.
 fn shares<P: Share + Drop>(alloc: Global, pages: &[P]) -> Result<Vec<P>, NoMemory>
     ensures { IfOk result (λ shares. shares.items ≡ pages.now) }
 {
@@ -111,26 +85,35 @@ impl<T, P: Page<T>> Share for Row<T, P> {
 }
 
 impl<T: Drop, P: Page<T>> Page<T> for Row<T, P> {
+    ghost use Rattle.std.specs.Prelude.{◌-◌, ◌*◌, ◌^◌, min};
+    ghost use Rattle.std.proofs.Common.{arith};
     ghost use Rattle.shared_parts.specs.declared.row.TheConstants.{WIDTH};
 
     ghost items = { λ row. row };
 
     ghost full = { min (P.full * WIDTH) (2 ^ 64 - 1) };
 
-    ghost use Rattle.std.proofs.Common.{arith};
-
     ghost some = { Prim.omega (arith, P.some) };
 
+    // No memory holds more items than it saturates at.
     fn full_len() -> usize {
         P::full_len().saturating_mul(WIDTH)
     }
 
     fn at(&self, index: usize) -> &T {
-        Row::at(self, index)
+        let full = P::full_len();
+        self.pages[index / full].at(index % full)
     }
 
     fn with(&self, alloc: Global, index: usize, item: T) -> Result<Self, NoMemory> {
-        Row::with(self, alloc, index, item)
+        let full = P::full_len();
+        let page = self.pages[index / full].with(alloc, index % full, item)?;
+        let mut pages = shares(alloc, &self.pages)?;
+        pages[index / full] = page;
+        Ok(Row {
+            pages: Arc::new(alloc, pages)?,
+            of: PhantomData,
+        })
     }
 
     fn of_next<L: Ledger>(
@@ -138,6 +121,6 @@ impl<T: Drop, P: Page<T>> Page<T> for Row<T, P> {
         rest: &mut IntoIter<T>,
         steps: &mut Steps<L>,
     ) -> Result<Self, NoMemory> {
-        Row::of_next(alloc, WIDTH, rest, steps)
+        Row::of_width(alloc, WIDTH, rest, steps)
     }
 }

@@ -3,6 +3,7 @@
 ghost use Rattle.std.specs.Prelude.{◌≡◌, ◌+◌, ◌<◌, ◌≤◌, length, slice_index_or, slice_set, IfOk, OnOk, OnErr};
 
 use crate::leaf::Leaf;
+use crate::page::Page;
 use crate::row::Row;
 use crate::share::{NoMemory, Share};
 use std::alloc::Global;
@@ -44,7 +45,7 @@ impl<T: Drop> SharedPages<T> {
     {
         let len = items.len();
         let mut rest = items.into_iter();
-        let top = Row::of_next(alloc, len, &mut rest, steps)?;
+        let top = Row::of_width(alloc, len, &mut rest, steps)?;
         Ok(SharedPages { alloc, len, top })
     }
 

@@ -1,6 +1,6 @@
-use Rattle.std.proofs.Common.{sym, ◌∙◌}
+use Rattle.std.proofs.Common.{◌∙◌}
 use Rattle.shared_parts.proofs.PagesLemmas.{place_holds, page_holds, item_reads}
-use Rattle.shared_parts.proofs.row.Row.at.Goals as goal
+use Rattle.shared_parts.proofs.row.RowPage.at.Goals as goal
 
 pub index-requires : goal.index-requires
 index-requires g c =

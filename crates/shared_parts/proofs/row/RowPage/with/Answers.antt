@@ -1,8 +1,7 @@
-use Rattle.std.proofs.Common.{◌≡◌, ◌/◌, ap, ◌∙◌, length, get_or}
-use Rattle.std.proofs.lemmas.List.{length-set}
+use Rattle.std.proofs.Common.{◌≡◌, ◌/◌, get_or}
 use Rattle.std.specs.Arc.{arc_value}
-use Rattle.shared_parts.proofs.PagesLemmas.{place_holds, page_holds, item_sets, stay_filled}
-use Rattle.shared_parts.proofs.row.Row.with.Goals as goal
+use Rattle.shared_parts.proofs.PagesLemmas.{place_holds, page_holds, item_sets, pages_stay}
+use Rattle.shared_parts.proofs.row.RowPage.with.Goals as goal
 
 pub index-requires : goal.index-requires
 index-requires g c =
@@ -22,12 +21,11 @@ index_mut-requires g c =
 pub invariant_of-result : goal.invariant_of-result
 invariant_of-result g c =
     let found : c.index.result.now ≡ get_or (arc_value c.self.inside.pages).items (c.args.index / c.full_len-full.result) c.index.result.now = rw (← c.deref.ensures) c.index.ensures in
-    let same = ap length c.in_ok-page.ensures ∙ length-set _ _ _ ∙ ap (λ page. length (g.P.Page.items page)) found in
     rw (c.in_ok-new.ensures.ok, c.in_ok-pages.ensures, c.deref-3.ensures.value, c.deref-2.ensures)
-    (stay_filled _ _ _ _ c.index.result.now _ c.self.invariant same)
+    (pages_stay _ _ _ _ _ _ c.self.view_is c.full_len-full.ensures g.met.P.Page.some c.self.invariant c.requires c.index.result.now c.in_ok-page.page c.args.item (rw (← found) c.in_ok-page.ensures))
 
 pub returns : goal.returns
 returns g c =
     let found : c.index.result.now ≡ get_or (arc_value c.self.inside.pages).items (c.args.index / c.full_len-full.result) c.index.result.now = rw (← c.deref.ensures) c.index.ensures in
     rw (c.in_ok-new.ensures.ok, c.in_ok-pages.ensures, c.deref-3.ensures.value, c.deref-2.ensures)
-    (item_sets _ _ _ _ _ _ c.self.view_is c.full_len-full.ensures g.met.P.Page.some c.self.invariant c.requires c.index.result.now _ _ (rw (← found) c.in_ok-page.ensures))
+    (item_sets _ _ _ _ _ _ c.self.view_is c.full_len-full.ensures g.met.P.Page.some c.self.invariant c.requires c.index.result.now c.in_ok-page.page c.args.item (rw (← found) c.in_ok-page.ensures))

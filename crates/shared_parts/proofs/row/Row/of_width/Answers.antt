@@ -1,10 +1,10 @@
 use Rattle.std.proofs.Common.{◌≡◌, ◌<◌, ◌≤◌, ◌*◌, ap, ◌∙◌, arith, length, length-append, append_assoc}
 use Rattle.std.proofs.Math.Nat.{mul-le-mul_left}
-use Rattle.std.proofs.lemmas.Grind.{common_steps, flat_map-append}
+use Rattle.std.proofs.lemmas.Grind.{flat_map-append}
 use Rattle.std.specs.Vec.Iter.{into_iter_len}
 use Rattle.shared_parts.proofs.PagesLemmas.{all_more, filled_more, filled_most}
-use Rattle.shared_parts.proofs.row.Row.of_next.Goals as goal
-use Rattle.shared_parts.proofs.row.Row.of_next.Goals.{else-loop-test, then-loop-test+then-len-eq0}
+use Rattle.shared_parts.proofs.row.Row.of_width.Goals as goal
+use Rattle.shared_parts.proofs.row.Row.of_width.Goals.{else-loop-test, then-loop-test+then-len-eq0}
 
 pub loop-preserved : goal.loop-preserved
 loop-preserved g c =
@@ -27,13 +27,10 @@ returns-clause-most g c =
     rw c.in_ok-new.ensures.ok (omega arith)
 
 pub returns-clause-full : goal.returns-clause-full
-returns-clause-full g c = λ some.
-    let done : c.loop.counter ≡ c.args.width = elim c.loop-test.branch [
-      else-loop-test w ↦ let h = w.loop-test.false in let h2 = c.loop.auto.counter-end in grind arith
-    | then-loop-test+then-len-eq0 w ↦ let h = w.if-len-eq0.true in let h1 = w.len.ensures.value in let h3 = w.t-3-is in grind arith
+returns-clause-full g c some =
+    let as_many : c.loop.counter ≡ c.args.width = elim c.loop-test.branch [
+      else-loop-test w ↦ let (at_least, at_most) = (w.loop-test.false, c.loop.auto.counter-end) in grind arith
+    | then-loop-test+then-len-eq0 w ↦ let (none, len, same) = (w.if-len-eq0.true, w.len.ensures.value, w.t-3-is) in grind arith
     ] in
     let all = c.loop.invariant.all_full (grind arith) in
-    rw c.in_ok-new.ensures.ok (all ∙ ap (λ n. g.P.Page.full * n) (c.loop.invariant.counted ∙ done))
-
-pub returns-clause-all : goal.returns-clause-all
-returns-clause-all g c = let h = g.met.P.Page.some in ?
+    rw c.in_ok-new.ensures.ok (all ∙ ap (λ n. g.P.Page.full * n) (c.loop.invariant.counted ∙ as_many))
