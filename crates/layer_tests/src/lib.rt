@@ -12,4 +12,6 @@ mod sections;
 #[cfg(test)]
 mod sets;
 #[cfg(test)]
+mod shared_pages;
+#[cfg(test)]
 mod shelves;
