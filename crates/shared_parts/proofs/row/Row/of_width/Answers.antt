@@ -17,7 +17,7 @@ loop-preserved g c =
       filled = filled_more _ _ _ _ before.filled (before.all_full left) page.most;
       all_full = λ more. all_more _ _ _ _ (before.all_full left) (page.full more);
       counted = grind (arith, length-append);
-      ticks = grind arith
+      ticks = grind arith;
     }
 
 pub returns-clause-most : goal.returns-clause-most
@@ -28,9 +28,10 @@ returns-clause-most g c =
 
 pub returns-clause-full : goal.returns-clause-full
 returns-clause-full g c some =
+    let at_most = c.loop.auto.counter-end in
     let as_many : c.loop.counter ≡ c.args.width = elim c.loop-test.branch [
-      else-loop-test w ↦ let (at_least, at_most) = (w.loop-test.false, c.loop.auto.counter-end) in grind arith
-    | then-loop-test+then-len-eq0 w ↦ let (none, len, same) = (w.if-len-eq0.true, w.len.ensures.value, w.t-3-is) in grind arith
+      | else-loop-test w ↦ let at_least = w.loop-test.false in grind arith
+      | then-loop-test+then-len-eq0 w ↦ let none = w.if-len-eq0.true in let len = w.len.ensures.value in let same = w.t-3-is in grind arith
     ] in
     let all = c.loop.invariant.all_full (grind arith) in
     rw c.in_ok-new.ensures.ok (all ∙ ap (λ n. g.P.Page.full * n) (c.loop.invariant.counted ∙ as_many))

@@ -10,5 +10,5 @@ invariant-loop g l = record {
   filled : AreFilled g.P.Page.items g.P.Page.full l.pages.items;
   all_full : 0 < into_iter_len l.rest → length (flat_map g.P.Page.items l.pages.items) ≡ g.P.Page.full * length l.pages.items;
   counted : length l.pages.items ≡ l.counter;
-  ticks : l.steps + into_iter_len l.rest ≡ l.initial.steps + into_iter_len l.initial.rest
+  ticks : l.steps + into_iter_len l.rest ≡ l.initial.steps + into_iter_len l.initial.rest;
 }
