@@ -31,6 +31,8 @@ fn shows(pages: &SharedPages<usize>, numbers: &[usize]) -> bool {
     pages.len() == numbers.len()
 }
 
+fn crosses_threads<X: Send + Sync>(_value: &X) {}
+
 /// Whether numbers can be put at the four places, so that a share taken before keeps what it holds. If so, they took a tick for each of 300 items, and one for each put.
 fn four_are_put<L: Ledger>(alloc: Global, steps: &mut Steps<L>) -> Result<bool, NoMemory>
     ensures { IfOk result (λ holds. IsTrue holds → steps.new ≡ steps.old + 304) }
@@ -40,6 +42,7 @@ fn four_are_put<L: Ledger>(alloc: Global, steps: &mut Steps<L>) -> Result<bool, 
         return Ok(false);
     }
     let kept = pages.share()?;
+    crosses_threads(&kept);
     pages.put(0, 1_000, steps)?;
     pages.put(63, 1_063, steps)?;
     pages.put(64, 1_064, steps)?;
