@@ -1,3 +1,4 @@
 pub mod Graph
 pub mod Held
+pub mod Size
 pub mod Walks

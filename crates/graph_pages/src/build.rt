@@ -12,6 +12,7 @@ ghost use Rattle.room_words.specs.declared.anchor.Anchor.{Anchor};
 
 use crate::graph::{Graph, Maps};
 use crate::star::Star;
+use crate::terms::{plus, terms_at_places, terms_of_stars};
 use cim_words::{Id, NoMemory};
 use room_words::{Anchor, Members, places_are_compared};
 use std::alloc::Global;
@@ -22,6 +23,7 @@ use step_count::Steps;
 
 impl Graph {
     /// The graph of these stars and places, one tick for each. They are of different identifiers and anchors.
+    /// It is want of memory too where the terminals that they list are no number of items.
     pub fn build<L: Ledger>(
         alloc: Global,
         stars: Vec<Star>,
@@ -37,8 +39,14 @@ impl Graph {
     {
         let stars = stars_by_id(alloc, stars, steps)?;
         let places = members_by_place(alloc, places, steps)?;
+        let terms = plus(terms_of_stars(&stars)?, terms_at_places(&places)?)?;
+        let maps = Maps {
+            stars,
+            places,
+            terms,
+        };
         Ok(Graph {
-            shared: Arc::new(alloc, Maps { stars, places })?,
+            shared: Arc::new(alloc, maps)?,
         })
     }
 }

@@ -1,9 +1,10 @@
 //! The graph.
 
-ghost use Rattle.std.specs.Prelude.{◌≡◌, ℕ, IfOk, map, nat_eq, option_copied};
+ghost use Rattle.std.specs.Prelude.{◌≡◌, ◌≤◌, ℕ, IfOk, map, nat_eq, option_copied};
 ghost use Rattle.std.specs.Iterator.{YieldsFirstRef, item_count};
 ghost use Rattle.std.specs.List.{IsDistinct};
 ghost use Rattle.graph_pages.specs.Graph.{members_of, star_in, star_of};
+ghost use Rattle.graph_pages.specs.Size.{listed_terms};
 ghost use Rattle.graph_pages.specs.declared.star.Star.{Star};
 
 use crate::star::Star;
@@ -14,11 +15,12 @@ use std::collections::btree_map::Values;
 use std::marker::Model;
 use std::sync::Arc;
 
-/// The two maps.
+/// The two maps, and how many terminals their entries list.
 #[derive(Drop)]
 pub(crate) struct Maps {
     pub(crate) stars: BTreeMap<Id, Star>,
     pub(crate) places: BTreeMap<Anchor, Members>,
+    pub(crate) terms: usize,
 }
 
 /// Two finite maps, which are shared and do not change: from equipment and items to their stars, and from places to their members.
@@ -29,15 +31,14 @@ pub struct Graph {
 
 impl Model for Graph {
     ghost use Rattle.std.specs.Arc.{arc_value};
-    ghost use Rattle.std.specs.BTreeMap.{values};
     ghost use Rattle.graph_pages.specs.Graph.{GraphView};
-    ghost use Rattle.graph_pages.specs.Held.{HoldsById};
+    ghost use Rattle.graph_pages.specs.Held.{IsHeld, view_of};
 
     ghost Value = { GraphView };
 
-    ghost view = { λ graph. record { stars = values (arc_value graph.shared).stars; places = (arc_value graph.shared).places.entries } };
+    ghost view = { λ graph. view_of (arc_value graph.shared) };
 
-    ghost invariant = { λ graph. HoldsById (arc_value graph.shared).stars.entries };
+    ghost invariant = { λ graph. IsHeld (arc_value graph.shared) };
 }
 
 impl Graph {
@@ -63,6 +64,13 @@ impl Graph {
         Stars {
             rest: self.shared.stars.values(),
         }
+    }
+
+    /// How many terminals the graph has room for: at least as many as its entries list, each counted as often as it is listed.
+    pub fn terms(&self) -> usize
+        ensures { listed_terms self.now ≤ result }
+    {
+        self.shared.terms
     }
 
     /// The same graph once more.

@@ -4,6 +4,7 @@
 mod build;
 mod graph;
 mod star;
+mod terms;
 
 pub use cim_words::NoMemory;
 pub use graph::{Graph, Stars};

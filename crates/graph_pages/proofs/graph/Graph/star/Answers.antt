@@ -12,6 +12,6 @@ returns c =
     let maps = c.deref.result.now in
     c.get.ensures.value
     ∙ lookup_same _ _ (λ (k : Id). same_by_cmp c.args.id.number k.number) maps.stars.entries
-    ∙ star_by_id-held maps.stars.entries c.args.id.number (subst (λ (m : Maps). HoldsById m.stars.entries) (sym c.deref.ensures) c.self.invariant)
+    ∙ star_by_id-held maps.stars.entries c.args.id.number (subst (λ (m : Maps). HoldsById m.stars.entries) (sym c.deref.ensures) c.self.invariant.by_id)
     ∙ ap (λ (m : Maps). star_of (record { stars = values m.stars; places = m.places.entries }) c.args.id.number) c.deref.ensures
     ∙ ap (λ (view : GraphView). star_of view c.args.id.number) c.self.view_is
