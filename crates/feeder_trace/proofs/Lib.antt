@@ -1,13 +1,14 @@
+pub mod PushLemmas
 pub mod MarkLemmas
 pub mod PhaseLemmas
-pub mod NotedLemmas
 pub mod RoomLemmas
 pub mod TermLemmas
 pub mod NumberingLemmas
+pub mod SizeLemmas
 pub mod SpreadLemmas
 pub mod WalkLemmas
 pub mod RowLemmas
 pub mod PartLemmas
 pub mod HubLemmas
-pub mod HubsOfLemmas
+pub mod HubRoomLemmas
 pub mod OverLemmas

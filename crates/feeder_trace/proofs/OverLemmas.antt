@@ -10,9 +10,9 @@ use Rattle.graph_pages.specs.Walks.{Line, line_of, place_at}
 use Rattle.room_words.specs.declared.term.Point.{Point}
 use Rattle.room_words.specs.declared.term.Term.{Term}
 use Rattle.room_words.specs.declared.anchor.Anchor.{Anchor}
-use Rattle.feeder_trace.specs.Hubs.{HubsView, Visits, IsVisited}
+use Rattle.feeder_trace.specs.Hubs.{HubsView, Visits, IsVisited, StandsIn}
 use Rattle.feeder_trace.specs.Numbering.{IsOwn}
-use Rattle.feeder_trace.specs.Spread.{AtHub, IsOver, StandsIn, AmongMembers, AtPlaceOf, InSections}
+use Rattle.feeder_trace.specs.Spread.{AtHub, IsOver, AmongMembers, AtPlaceOf, InSections}
 use Rattle.feeder_trace.specs.Search.{SearchView, IsMarked, IsPopped, IsSet, MarksAll}
 use Rattle.feeder_trace.specs.declared.hub.Hub.{Hub}
 use Rattle.feeder_trace.specs.declared.hub.Hub.TheVariants.{Place, Section}
@@ -20,9 +20,10 @@ use Rattle.feeder_trace.proofs.MarkLemmas.{marks_nothing, marks_as}
 use Rattle.feeder_trace.proofs.SpreadLemmas.{sections_more}
 
 -- what may be marked beyond a step is marked already
-marks_rest : (may may' : Point → Type 0) (a b : SearchView) → ((x : Point) → may x → may' x) → ((x : Point) → may' x → IsOwn a.terminals x → may x ⊎ IsMarked a x) → MarksAll may a b → MarksAll may' a b
+marks_rest : (may may' : Point → Type 0) (a b : SearchView) → ((x : Point) → may x → may' x) → ((x : Point) → may' x → IsOwn a.graph x → may x ⊎ IsMarked a x) → MarksAll may a b → MarksAll may' a b
 marks_rest may may' a b to from m = record {
-  same_terminals = m.same_terminals;
+  same_graph = m.same_graph;
+  same_most = m.same_most;
   marked = λ x h own. ⊎_elim (λ l. m.marked x l own) (λ old. m.kept x old) (from x h own);
   kept = m.kept;
   only = λ x h. ⊎_elim inl (λ new. inr (to x new.0, new.1, new.2)) (m.only x h);
@@ -32,35 +33,44 @@ marks_rest may may' a b to from m = record {
 }
 
 -- nothing was visited, and more is marked
-pub over_begins : (g : GraphView) (hubs : HubsView) (v : SearchView) → ((hub : Hub) (p : Phase) → IsVisited hubs hub p → ⊥) → IsOver g hubs v
-over_begins g hubs v none hub a visited stands own = absurd (none hub a.phase visited)
+pub over_begins : (g : GraphView) (hubs : HubsView) (v : SearchView) → hubs.graph ≡ g → ((hub : Hub) (p : Phase) → IsVisited hubs hub p → ⊥) → IsOver g hubs v
+over_begins g hubs v same none = record { same_graph = same; marked = λ hub a visited stands own. absurd (none hub a.phase visited) }
 
 pub over_kept : (g : GraphView) (hubs : HubsView) (may : Point → Type 0) (a b : SearchView) → IsOver g hubs a → MarksAll may a b → IsOver g hubs b
-over_kept g hubs may a b over m hub x visited stands own = m.kept x (over hub x visited stands (subst (λ ts. IsOwn ts x) m.same_terminals own))
+over_kept g hubs may a b over m = record {
+  same_graph = over.same_graph;
+  marked = λ hub x visited stands own. m.kept x (over.marked hub x visited stands (subst (λ h. IsOwn h x) m.same_graph own));
+}
 
 pub over_popped : (g : GraphView) (hubs : HubsView) (next : Term × PhaseSet) (a b : SearchView) → IsOver g hubs a → IsPopped next a b → IsOver g hubs b
-over_popped g hubs next a b over popped hub x visited stands own =
-    let (i, at, set) = over hub x visited stands (subst (λ ts. IsOwn ts x) popped.same_terminals own) in (
-      i,
-      (at.0, ap (λ (ts : List (Term × PhaseSet)). slice_get ts i) popped.same_terminals ∙ at.1),
-      subst (λ (sets : List PhaseSet). IsSet sets i x.phase) (sym popped.same_reached) set,
-    )
+over_popped g hubs next a b over popped = record {
+  same_graph = over.same_graph;
+  marked = λ hub x visited stands own.
+      let (i, at, set) = over.marked hub x visited stands (subst (λ h. IsOwn h x) popped.same_graph own) in (
+        i,
+        (at.0, ap (λ (ts : List (Term × PhaseSet)). slice_get ts i) popped.same_terminals ∙ at.1),
+        subst (λ (sets : List PhaseSet). IsSet sets i x.phase) (sym popped.same_reached) set,
+      );
+}
 
 -- all who stand where was visited are marked
 module _ (g : GraphView) (old new : HubsView) (hub : Hub) (phases left : PhaseSet) (a b : SearchView) (over : IsOver g old a) (went : Visits hub phases left old new) (m : MarksAll (AtHub g hub left) a b) where
   pub over_more : IsOver g new b
-  over_more other x visited stands own =
-      let own_a = subst (λ ts. IsOwn ts x) m.same_terminals own in
-      ⊎_elim
-      (λ before. m.kept x (over other x before stands own_a))
-      (λ now. m.marked x (subst (λ (h : Hub). StandsIn g h x.term) now.0 stands, now.1) own_a)
-      (went.only other x.phase visited)
+  over_more = record {
+    same_graph = went.same_graph ∙ over.same_graph;
+    marked = λ other x visited stands own.
+        let own_a = subst (λ h. IsOwn h x) m.same_graph own in
+        ⊎_elim
+        (λ before. m.kept x (over.marked other x before stands own_a))
+        (λ now. m.marked x (subst (λ (h : Hub). StandsIn g h x.term) now.0 stands, now.1) own_a)
+        (went.only other x.phase visited);
+  }
 
   pub over_marks : MarksAll (AtHub g hub phases) a b
   over_marks =
       marks_rest (AtHub g hub left) (AtHub g hub phases) a b
       (λ x h. (h.0, went.asked x.phase h.1))
-      (λ x h own. ⊎_elim (λ l. inl (h.0, l)) (λ visited. inr (over hub x visited h.0 own)) (went.rest x.phase h.1))
+      (λ x h own. ⊎_elim (λ l. inl (h.0, l)) (λ visited. inr (over.marked hub x visited h.0 own)) (went.rest x.phase h.1))
       m
 
 -- nothing is left to be visited

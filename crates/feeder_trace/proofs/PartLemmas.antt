@@ -1,11 +1,10 @@
 -- What the terminals that a search reached count for, one after another.
-use Rattle.std.proofs.Common.{◌≡◌, ◌&&◌, ◌+◌, ◌<◌, ◌≤◌, ℕ, List, [], ◌∷◌, ◌++◌, length, get_or, take, vec_len, Vec, Some, option_map, slice_get, IsTrue, Contains, sym, ap, ◌∙◌, subst, inl, inr, ⊎_elim, arith}
+use Rattle.std.proofs.Common.{◌≡◌, ◌&&◌, ◌+◌, ◌<◌, ◌≤◌, ℕ, List, [], ◌∷◌, ◌++◌, length, vec_len, Vec, Some, option_map, slice_get, IsTrue, Contains, sym, ap, ◌∙◌, subst, inl, inr, ⊎_elim, arith}
 use Rattle.std.specs.Vec.{vec_capacity}
 use Rattle.std.specs.declared.alloc.Global.{Global}
-use Rattle.std.proofs.lemmas.List.{take_more}
-use Rattle.std.proofs.lemmas.List.Elements.{Contains-append_left, Contains-push, Contains-push_cases}
-use Rattle.std.proofs.lemmas.Option.{same_Some}
-use Rattle.std.proofs.lemmas.Bool.{and_from, and_parts}
+use Rattle.std.proofs.lemmas.List.Elements.{Contains-push_cases}
+use Rattle.std.proofs.lemmas.Option.{same_Some, slice_get_within}
+use Rattle.std.proofs.lemmas.Bool.{and_from, and_parts, cases_eq}
 use Rattle.plain_laws.proofs.Members.{contains_nothing}
 use Rattle.cim_words.specs.Phases.{has_phase}
 use Rattle.cim_words.specs.declared.identifier.Id.{Id}
@@ -59,57 +58,44 @@ parts_both g t star segment reached met line a b c at on is meets first then = r
   capacity = omega (arith, first.capacity, then.capacity);
 }
 
--- what the terminals with some numbers count for
-abbrev pub CountedIn : GraphView → SearchView → List ℕ → ℕ → Phase → Type 0
-CountedIn g v ns y p = (i : ℕ) × Contains ns i × (t : Term) × IsAt v i t × CountsFor g t y p × IsSet v.reached i p
+-- what the terminals with the first numbers count for
+abbrev pub CountedIn : GraphView → SearchView → ℕ → ℕ → Phase → Type 0
+CountedIn g v n y p = (i : ℕ) × (i < n) × (t : Term) × IsAt v i t × CountsFor g t y p × IsSet v.reached i p
 
 -- where a gathering stands after some numbers
-pub record IsGathered (g : GraphView) (v : SearchView) (ns : List ℕ) (parts : List Row) : Type 0 where
-  pub out : (y : ℕ) (p : Phase) → Lists parts y p → CountedIn g v ns y p
-  pub into : (y : ℕ) (p : Phase) → CountedIn g v ns y p → Lists parts y p
+pub record IsGathered (g : GraphView) (v : SearchView) (n : ℕ) (parts : List Row) : Type 0 where
+  pub out : (y : ℕ) (p : Phase) → Lists parts y p → CountedIn g v n y p
+  pub into : (y : ℕ) (p : Phase) → CountedIn g v n y p → Lists parts y p
   pub have : HavePhases parts
 
-pub gather_begins : (g : GraphView) (v : SearchView) (ns : List ℕ) (parts : List Row) → parts ≡ [] → IsGathered g v (take 0 ns) parts
-gather_begins g v ns parts none = subst (IsGathered g v []) (sym none) (record {
+pub gather_begins : (g : GraphView) (v : SearchView) (parts : List Row) → parts ≡ [] → IsGathered g v 0 parts
+gather_begins g v parts none = subst (IsGathered g v 0) (sym none) (record {
   out = λ y p l. contains_nothing l.row l.stands;
-  into = λ y p h. contains_nothing h.0 h.1;
+  into = λ y p h. absurd (omega (arith, h.1));
   have = λ row h. contains_nothing row h;
 })
 
-pub gather_skip : (g : GraphView) (v : SearchView) (ns : List ℕ) (k d : ℕ) (parts : List Row) → k < length ns → ((t : Term) (set : PhaseSet) → IsAt v (get_or ns k d) t → slice_get v.reached (get_or ns k d) ≡ Some set → ⊥) → IsGathered g v (take k ns) parts → IsGathered g v (take (k + 1) ns) parts
-gather_skip g v ns k d parts within none m =
-    subst (λ (ms : List ℕ). IsGathered g v ms parts) (sym (take_more ns k d within))
-    (record {
-      out = λ y p l. let h = m.out y p l in (h.0, Contains-append_left (take k ns) (get_or ns k d ∷ []) h.0 h.1, h.2, h.3, h.4, h.5);
-      into = λ y p (i, stands, t, at, counts, set). ⊎_elim
-          (λ l. m.into y p (i, l, t, at, counts, set))
-          (λ same. absurd (none t set.0 (subst (λ j. IsAt v j t) (sym same) at) (ap (slice_get v.reached) same ∙ set.1)))
-          (Contains-push_cases (take k ns) (get_or ns k d) i stands);
-      have = m.have;
-    })
+pub gather_more : (g : GraphView) (v : SearchView) (n : ℕ) (t : Term) (set : PhaseSet) (a b : Vec Row Global) → IsAt v n t → slice_get v.reached n ≡ Some set → AddsParts (λ y p. CountsFor g t y p × IsTrue (has_phase set p)) 2 a b → IsGathered g v n a.items → IsGathered g v (n + 1) b.items
+gather_more g v n t set a b at read adds m = record {
+  out = λ y p l. ⊎_elim
+      (λ l. let h = m.out y p l in (h.0, omega (arith, h.1), h.2, h.3, h.4, h.5))
+      (λ new. (n, omega arith, t, at, new.0, (set, read, new.1)))
+      ((adds.lists y p).0 l);
+  into = λ y p (i, below, t', at', counts, is). (adds.lists y p).1 (⊎_elim
+      (λ same.
+      let entry : (t', at'.0) ≡ (t, at.0) = same_Some (t', at'.0) (t, at.0) (sym at'.1 ∙ ap (slice_get v.terminals) same ∙ at.1) in
+      let term : t' ≡ t = ap (λ (e : Term × PhaseSet). e.0) entry in
+      let held : is.0 ≡ set = same_Some is.0 set (sym is.1 ∙ ap (slice_get v.reached) same ∙ read) in
+      inr (subst (λ (u : Term). CountsFor g u y p) term counts, subst (λ (s : PhaseSet). IsTrue (has_phase s p)) held is.2))
+      (λ apart. inl (m.into y p (i, omega (arith, below, apart), t', at', counts, is)))
+      (cases_eq i n));
+  have = adds.in_some_phase m.have;
+}
 
-pub gather_more : (g : GraphView) (v : SearchView) (ns : List ℕ) (k d : ℕ) (t : Term) (set : PhaseSet) (a b : Vec Row Global) → k < length ns → IsAt v (get_or ns k d) t → slice_get v.reached (get_or ns k d) ≡ Some set → AddsParts (λ y p. CountsFor g t y p × IsTrue (has_phase set p)) 2 a b → IsGathered g v (take k ns) a.items → IsGathered g v (take (k + 1) ns) b.items
-gather_more g v ns k d t set a b within at read adds m =
-    let n = get_or ns k d in
-    subst (λ (ms : List ℕ). IsGathered g v ms b.items) (sym (take_more ns k d within))
-    (record {
-      out = λ y p l. ⊎_elim
-          (λ l. let h = m.out y p l in (h.0, Contains-append_left (take k ns) (n ∷ []) h.0 h.1, h.2, h.3, h.4, h.5))
-          (λ new. (n, Contains-push (take k ns) n, t, at, new.0, (set, read, new.1)))
-          ((adds.lists y p).0 l);
-      into = λ y p (i, stands, t', at', counts, is). (adds.lists y p).1 (⊎_elim
-          (λ l. inl (m.into y p (i, l, t', at', counts, is)))
-          (λ same.
-          let entry : (t', at'.0) ≡ (t, at.0) = same_Some (t', at'.0) (t, at.0) (sym at'.1 ∙ ap (slice_get v.terminals) (sym same) ∙ at.1) in
-          let term : t' ≡ t = ap (λ (e : Term × PhaseSet). e.0) entry in
-          let held : is.0 ≡ set = same_Some is.0 set (sym is.1 ∙ ap (slice_get v.reached) (sym same) ∙ read) in
-          inr (subst (λ (u : Term). CountsFor g u y p) term counts, subst (λ (s : PhaseSet). IsTrue (has_phase s p)) held is.2))
-          (Contains-push_cases (take k ns) n i stands));
-      have = adds.in_some_phase m.have;
-    })
+pub gathered_out : (g : GraphView) (v : SearchView) (n : ℕ) (parts : List Row) → IsGathered g v n parts → (y : ℕ) (p : Phase) → Lists parts y p → Counted g v y p
+gathered_out g v n parts m y p l = let h = m.out y p l in (h.2, h.4, (h.0, h.3, h.5))
 
-pub gathered_out : (g : GraphView) (v : SearchView) (ns : List ℕ) (parts : List Row) → IsGathered g v ns parts → (y : ℕ) (p : Phase) → Lists parts y p → Counted g v y p
-gathered_out g v ns parts m y p l = let h = m.out y p l in (h.2, h.4, (h.0, h.3, h.5))
-
-pub gathered_in : (g : GraphView) (v : SearchView) (ns : List ℕ) (parts : List Row) → IsGathered g v ns parts → ((i : ℕ) (p : Phase) → IsSet v.reached i p → Contains ns i) → (y : ℕ) (p : Phase) → Counted g v y p → Lists parts y p
-gathered_in g v ns parts m every y p (t, counts, (i, at, is)) = m.into y p (i, every i p is, t, at, counts, is)
+pub gathered_in : (g : GraphView) (v : SearchView) (n : ℕ) (parts : List Row) → IsGathered g v n parts → length v.terminals ≤ n → (y : ℕ) (p : Phase) → Counted g v y p → Lists parts y p
+gathered_in g v n parts m all y p (t, counts, (i, at, is)) =
+    let within = slice_get_within v.terminals i (t, at.0) at.1 in
+    m.into y p (i, omega (arith, within, all), t, at, counts, is)

@@ -1,10 +1,10 @@
 pub mod Hubs
-pub mod Noted
 pub mod Numbering
 pub mod Reserved
 pub mod Room
 pub mod Rows
 pub mod Search
 pub mod Spread
+pub mod Terminals
 pub mod Views
 pub mod Visited

@@ -1,20 +1,19 @@
 -- The points to which current goes on from a terminal in some phases, and those of the places and sections that a trace has visited.
-use Rattle.std.specs.Prelude.{◌≡◌, List, IsTrue, Option, Some, Contains, map, slice_get}
+use Rattle.std.specs.Prelude.{◌≡◌, List, IsTrue, Option, Some, Contains, map}
 use Rattle.cim_words.specs.Phases.{has_phase}
 use Rattle.cim_words.specs.declared.phases.Phase.{Phase}
 use Rattle.cim_words.specs.declared.phases.PhaseSet.{PhaseSet}
-use Rattle.graph_pages.specs.Graph.{GraphView, members_of}
-use Rattle.graph_pages.specs.Walks.{Line, AtPlace, HasSpoke, InSection, Joined, Passes, line_of}
+use Rattle.graph_pages.specs.Graph.{GraphView}
+use Rattle.graph_pages.specs.Walks.{Line, AtPlace, HasSpoke, InSection, Joined, Passes}
 use Rattle.room_words.specs.declared.term.Point.{Point}
 use Rattle.graph_pages.specs.declared.star.Spoke.{Spoke}
 use Rattle.graph_pages.specs.declared.star.Star.{Star}
 use Rattle.room_words.specs.declared.term.Term.{Term}
 use Rattle.feeder_trace.specs.declared.lines.Line.{Line as BorrowedLine}
-use Rattle.feeder_trace.specs.Hubs.{HubsView, IsVisited}
+use Rattle.feeder_trace.specs.Hubs.{HubsView, IsVisited, StandsIn}
 use Rattle.feeder_trace.specs.Numbering.{IsOwn}
 use Rattle.feeder_trace.specs.Search.{SearchView, IsMarked}
 use Rattle.feeder_trace.specs.declared.hub.Hub.{Hub}
-use Rattle.feeder_trace.specs.declared.hub.Hub.TheVariants as hub
 
 -- the point is reached by some link from one of the terminal's points in these phases
 abbrev pub From : (Point → Point → Type 0) → Term → PhaseSet → Point → Type 0
@@ -63,16 +62,11 @@ InSections sections t phases b =
 abbrev pub shown_line : BorrowedLine → Line
 shown_line line = record { phases = line.phases; sections = line.sections.now }
 
--- a terminal stands at a place or in a section
-abbrev pub StandsIn : GraphView → Hub → Term → Type 0
-StandsIn g (hub.Place place) t = (members : List Term) × (members_of g place ≡ Some members) × Contains members t
-StandsIn g (hub.Section segment n) t =
-    (line : Line) × (line_of g segment.number ≡ Some line) × (section : List Term) × (slice_get line.sections n ≡ Some section) × Contains section t
-
 -- the points of a place or a section in some phases
 abbrev pub AtHub : GraphView → Hub → PhaseSet → Point → Type 0
 AtHub g hub phases b = StandsIn g hub b.term × IsTrue (has_phase phases b.phase)
 
--- who stands where it was visited in one of the terminal's own phases is marked in it
-abbrev pub IsOver : GraphView → HubsView → SearchView → Type 0
-IsOver g hubs v = (hub : Hub) (a : Point) → IsVisited hubs hub a.phase → StandsIn g hub a.term → IsOwn v.terminals a → IsMarked v a
+-- the places and sections are the graph's, and who stands where it was visited in one of the terminal's own phases is marked in it
+pub record IsOver (g : GraphView) (hubs : HubsView) (v : SearchView) : Type 0 where
+  pub same_graph : hubs.graph ≡ g
+  pub marked : (hub : Hub) (a : Point) → IsVisited hubs hub a.phase → StandsIn g hub a.term → IsOwn v.graph a → IsMarked v a

@@ -4,11 +4,6 @@ use Rattle.cim_words.specs.Phases.{has_phase}
 use Rattle.cim_words.specs.declared.phases.Phase.{Phase}
 use Rattle.cim_words.specs.declared.phases.PhaseSet.{PhaseSet}
 
--- the sets, and the numbers of those that have phases
-pub record VisitedView : Type 0 where
-  pub sets : List PhaseSet
-  pub visited : List ℕ
-
 -- the set at a number has a phase
 abbrev pub IsSet : List PhaseSet → ℕ → Phase → Type 0
 IsSet sets i p = (held : PhaseSet) × (slice_get sets i ≡ Some held) × IsTrue (has_phase held p)

@@ -1,6 +1,6 @@
 //! What the terminals that a search reached count for.
 
-ghost use Rattle.std.specs.Prelude.{◌≡◌, ◌+◌, ◌*◌, ◌<◌, ◌≤◌, ◌⊎◌, ◌↔◌, ◌∷◌, ◌++◌, ℕ, [], length, vec_len, IsTrue, Contains, take};
+ghost use Rattle.std.specs.Prelude.{◌≡◌, ◌+◌, ◌*◌, ◌<◌, ◌≤◌, ◌⊎◌, ◌↔◌, ◌∷◌, ◌++◌, ℕ, [], vec_len, IsTrue, Contains};
 ghost use Rattle.std.specs.Vec.{vec_capacity};
 ghost use Rattle.cim_words.specs.Phases.{has_phase};
 ghost use Rattle.cim_words.specs.declared.phases.Phase.{Phase};
@@ -18,17 +18,15 @@ use graph_pages::{Graph, Term};
 
 /// The parts of the rows: of each terminal that was reached what it counts for, and in which phases.
 pub(crate) fn gather(graph: &Graph, search: &Search, parts: &mut Vec<Row>)
-    requires { 2 * length search.now.terminals ≤ vec_capacity parts.old }
+    requires { 2 * search.now.most ≤ vec_capacity parts.old }
     ensures counted { (y : ℕ) (p : Phase) → Lists parts.new.items y p ↔ Counted graph.now search.now y p }
     ensures some { (row : Row) → Contains parts.new.items row → (p : Phase) × IsTrue (has_phase row.1 p) }
-    ensures len { vec_len parts.new ≤ 2 * length search.now.terminals }
+    ensures len { vec_len parts.new ≤ 2 * search.now.most }
     ensures capacity { vec_capacity parts.old ≤ vec_capacity parts.new }
 {
     parts.clear();
-    for &index in search.visited() {
-        let Some((term, reached)) = search.at(index) else {
-            continue;
-        };
+    for index in 0..search.len() {
+        let (term, reached) = search.at(index);
         count_term(graph, term, reached, parts);
     }
 }

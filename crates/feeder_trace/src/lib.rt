@@ -12,7 +12,6 @@ mod search;
 mod spread;
 mod terminals;
 mod tracer;
-mod visited;
 mod walk;
 
 pub use cim_words::NoMemory;

@@ -6,14 +6,12 @@ ghost use Rattle.cim_model.specs.Reach.{IsReached};
 ghost use Rattle.cim_model.specs.Trace.{IsTrace};
 ghost use Rattle.graph_pages.specs.Graph.{star_of};
 ghost use Rattle.graph_pages.specs.Walks.{wiring};
-ghost use Rattle.feeder_trace.specs.Numbering.{IsNumbered};
 
 use crate::capacity::times;
 use crate::gather::gather;
 use crate::hubs::Hubs;
 use crate::merge::merge;
 use crate::search::Search;
-use crate::terminals::Terminals;
 use crate::walk::walk;
 use cim_words::{Id, NoMemory, PhaseSet};
 use graph_pages::Graph;
@@ -29,7 +27,6 @@ pub struct NoSuch;
 /// Traces a graph. All memory is taken when it is reserved.
 #[derive(Drop)]
 pub struct Tracer {
-    graph: Graph,
     search: Search,
     hubs: Hubs,
     parts: Vec<(Id, PhaseSet)>,
@@ -54,10 +51,9 @@ impl Tracer {
         ensures graph { IfOk result (λ tracer. tracer.graph ≡ graph.now) }
         ensures rows { IfOk result (λ tracer. tracer.rows ≡ []) }
     {
-        let search = search_over(alloc, graph)?;
+        let search = Search::new(alloc, graph)?;
         Ok(Tracer {
-            graph: graph.share()?,
-            hubs: Hubs::of(alloc, graph)?,
+            hubs: Hubs::new(alloc, graph)?,
             parts: room_for_rows(alloc, &search)?,
             rows: room_for_rows(alloc, &search)?,
             search,
@@ -95,18 +91,11 @@ impl Tracer {
     }
 }
 
-/// A search over the terminals of a graph that has not begun.
-fn search_over(alloc: Global, graph: &Graph) -> Result<Search, NoMemory>
-    ensures { IfOk result (λ search. IsNumbered graph.now search.terminals) }
-{
-    Search::new(alloc, Terminals::of(alloc, graph)?)
-}
-
 /// No rows, with the memory for all that a search can lead to: each terminal counts for its owner and for one segment.
 fn room_for_rows(alloc: Global, search: &Search) -> Result<Vec<(Id, PhaseSet)>, NoMemory>
     ensures none { IfOk result (λ rows. rows.items ≡ []) }
-    ensures room { IfOk result (λ rows. 2 * length search.now.terminals ≤ vec_capacity rows) }
+    ensures room { IfOk result (λ rows. 2 * search.now.most ≤ vec_capacity rows) }
 {
-    let most = times(search.len(), 2)?;
+    let most = times(search.most(), 2)?;
     Vec::with_capacity(alloc, most)
 }

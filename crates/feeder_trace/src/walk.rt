@@ -1,13 +1,11 @@
 //! A search from the terminals of a star.
 
-ghost use Rattle.std.specs.Prelude.{◌≡◌, ◌↔◌, ℕ, [], Some};
+ghost use Rattle.std.specs.Prelude.{◌≡◌, ◌↔◌, Some};
 ghost use Rattle.cim_model.specs.Reach.{IsPointReached};
-ghost use Rattle.cim_words.specs.declared.phases.Phase.{Phase};
 ghost use Rattle.graph_pages.specs.Graph.{star_of};
 ghost use Rattle.graph_pages.specs.Walks.{wiring};
 ghost use Rattle.room_words.specs.declared.term.Point.{Point};
-ghost use Rattle.feeder_trace.specs.Numbering.{IsNumbered};
-ghost use Rattle.feeder_trace.specs.Search.{IsMarked, IsSet};
+ghost use Rattle.feeder_trace.specs.Search.{IsMarked};
 
 use crate::hubs::Hubs;
 use crate::search::Search;
@@ -23,9 +21,12 @@ pub(crate) fn walk(
     star: &Star,
     phases: PhaseSet,
 )
-    requires terminals { IsNumbered graph.now search.old.terminals }
+    requires search { search.old.graph ≡ graph.now }
+    requires hubs { hubs.old.graph ≡ graph.now }
     requires star { star_of graph.now star.now.id.number ≡ Some star.now }
-    ensures terminals { search.new.terminals ≡ search.old.terminals }
+    ensures search { search.new.graph ≡ search.old.graph }
+    ensures hubs { hubs.new.graph ≡ hubs.old.graph }
+    ensures most { search.new.most ≡ search.old.most }
     ensures walked { (a : Point) → IsMarked search.new a ↔ IsPointReached (wiring graph.now) star.now.id.number phases a }
 {
     search.clear();

@@ -2,6 +2,8 @@ use Rattle.std.proofs.Common.{List, Some, refl, sym, ◌∙◌, subst, Contains}
 use Rattle.std.proofs.lemmas.List.{take_all}
 use Rattle.room_words.specs.declared.term.Term.{Term}
 use Rattle.feeder_trace.specs.Spread.{shown_line, AmongMembers, InSections}
+use Rattle.graph_pages.specs.Graph.{GraphView}
+use Rattle.feeder_trace.specs.Hubs.{IsHub}
 use Rattle.feeder_trace.specs.Search.{MarksAll}
 use Rattle.feeder_trace.specs.declared.hub.Hub.TheVariants.{Section}
 use Rattle.feeder_trace.proofs.OverLemmas.{hub_nothing, section_at, section_members, section_more}
@@ -43,3 +45,11 @@ returns-clause-marked c =
     (section_marks (shown_line c.in-Some.line) c.args.term c.args.phases c.meet-phases.result c.args.search.now c.loop-index.search c.meet-phases.ensures
     (subst (λ (sections : List (List Term)). MarksAll (InSections sections c.args.term c.meet-phases.result) c.args.search.now c.loop-index.search)
     (take_all c.loop-index.index c.as_slice-section-items.result.now c.loop-index-test.false ∙ c.as_slice-section-items.ensures) c.loop-index.invariant.0))
+
+pub visit-left-requires : goal.visit-left-requires
+visit-left-requires c =
+    let line = shown_line c.in-Some.line in
+    let at = section_at line.sections c.as_slice-section-items.result.now c.loop-index.index c.section-item.result c.as_slice-section-items.ensures c.loop-index-test.true c.section-item.is in
+    let has = subst (λ (ts : List Term). Contains ts c.args.term) c.as_slice.ensures (contains_by _ c.terms_are_compared.ensures.derived c.as_slice.result.now c.args.term (sym c.contains.ensures.value ∙ c.if-not-contains.false)) in
+    subst (λ (g : GraphView). IsHub g (Section c.in-Some.line.segment c.loop-index.index)) (sym c.loop-index.invariant.1.same_graph)
+    (c.args.term, (line, c.in-Some.ensures.segment, c.section-item.result, at, has))

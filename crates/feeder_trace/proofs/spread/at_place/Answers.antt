@@ -1,5 +1,7 @@
 use Rattle.std.proofs.Common.{List, Some, sym, ◌∙◌, subst, refl}
 use Rattle.room_words.specs.declared.term.Term.{Term}
+use Rattle.graph_pages.specs.Graph.{GraphView}
+use Rattle.feeder_trace.specs.Hubs.{IsHub}
 use Rattle.feeder_trace.specs.Search.{MarksAll}
 use Rattle.feeder_trace.specs.Spread.{AmongMembers}
 use Rattle.feeder_trace.specs.declared.hub.Hub.TheVariants.{Place}
@@ -37,3 +39,8 @@ returns-clause-over c =
     over_more c.args.graph.now c.args.hubs.now c.visit-phases.new.self (Place c.in-Some-at.place) c.args.phases c.visit-phases.result c.args.search.now c.reach_members.new.search c.requires.over c.visit-phases.ensures
     (place_members c.args.graph.now c.in-Some-at.place c.in-Some-members.members.now c.visit-phases.result c.args.search.now c.reach_members.new.search (sym c.in-Some-members.ensures)
     (subst (λ (ms : List Term). MarksAll (AmongMembers ms c.visit-phases.result) c.args.search.now c.reach_members.new.search) c.as_slice.ensures c.reach_members.ensures))
+
+pub visit-phases-requires : goal.visit-phases-requires
+visit-phases-requires c =
+    subst (λ (g : GraphView). IsHub g (Place c.in-Some-at.place)) (sym c.requires.over.same_graph)
+    (c.args.term, place_is c.args.graph.now c.args.term c.args.star.now (Some c.in-Some.spoke) c.requires.star c.in-Some.ensures ∙ c.in-Some-at.is)

@@ -5,7 +5,8 @@ use Rattle.feeder_trace.proofs.WalkLemmas.{IsWalk}
 use Rattle.feeder_trace.proofs.walk.walk.Given as goal
 
 abbrev pub invariant-loop-term : goal.invariant-loop-term
-invariant-loop-term l = (l.search.terminals ≡ l.fn.search.terminals) × IsWalk l.graph l.star.id.number l.fn.phases l.search × IsOver l.graph l.hubs l.search
+invariant-loop-term l =
+    (l.search.graph ≡ l.fn.search.graph) × (l.search.most ≡ l.fn.search.most) × IsWalk l.graph l.star.id.number l.fn.phases l.search × IsOver l.graph l.hubs l.search
 
 abbrev pub decreases-loop-term : goal.decreases-loop-term
-decreases-loop-term l = unmarked l.search.reached + length l.search.pending
+decreases-loop-term l = unmarked l.search + length l.search.pending

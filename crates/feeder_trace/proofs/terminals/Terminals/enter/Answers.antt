@@ -1,11 +1,20 @@
-use Rattle.std.proofs.Common.{List, sym, subst₂}
-use Rattle.cim_words.specs.declared.phases.PhaseSet.{PhaseSet}
-use Rattle.room_words.specs.declared.term.Term.{Term}
-use Rattle.feeder_trace.specs.Numbering.{Enters}
-use Rattle.feeder_trace.proofs.NumberingLemmas.{enters}
+use Rattle.std.proofs.Common.{◌≡◌, ◌∷◌, ◌++◌, [], Contains, length, ap, ◌∙◌, subst, arith}
+use Rattle.std.proofs.lemmas.List.{length_push}
+use Rattle.feeder_trace.specs.Views.{TerminalsView}
+use Rattle.feeder_trace.proofs.NumberingLemmas.{absent_none}
+use Rattle.indexmap.proofs.CallerLemmas.{insert_entry-new}
 use Rattle.feeder_trace.proofs.terminals.Terminals.enter.Goals as goal
 
-pub returns : goal.returns
-returns c =
-    subst₂ (λ (old new : List (Term × PhaseSet)). Enters c.args.term c.args.phases old new) c.self.view_is (sym c.in_ok-insert.ensures.entries)
-    (enters _ c.terms_are_compared.ensures.derived c.args.term c.args.phases c.self.inside.phases.entries)
+entered : (c : goal.After-unwrap) → c.insert.new.self.entries ≡ c.self.inside.phases.entries ++ (c.args.term, c.args.phases) ∷ []
+entered c =
+    rw c.unwrap.ensures at c.insert.ensures.entries
+    ∙ insert_entry-new _ c.self.inside.phases c.args.term c.args.phases
+    (absent_none _ c.terms_are_compared.ensures.derived c.self.inside.phases.entries c.args.term
+    (λ other h. c.requires.absent other (subst (λ (v : TerminalsView). Contains v.listed (c.args.term, other)) c.self.view_is h)))
+
+pub invariant_of-self : goal.invariant_of-self
+invariant_of-self c =
+    omega (arith, ap length (entered c), length_push c.self.inside.phases.entries (c.args.term, c.args.phases), c.insert.ensures.spare, c.self.invariant)
+
+pub returns-clause-entered : goal.returns-clause-entered
+returns-clause-entered c = entered c ∙ ap (λ (v : TerminalsView). v.listed ++ (c.args.term, c.args.phases) ∷ []) c.self.view_is
