@@ -7,8 +7,7 @@ use Rattle.std.proofs.lemmas.Option.{slice_get_read, slice_get_within}
 use Rattle.std.proofs.lemmas.Iterator.Adapters.{position_from-zero}
 use Rattle.std.proofs.lemmas.List.Elements.{Contains-push_cases}
 use Rattle.std.proofs.lemmas.Map.Keys.{IsDistinct-push}
-use Rattle.indexmap.specs.IndexSet.{index_set_len, insert_key, spare}
-use Rattle.plain_laws.proofs.Members.{contains_nothing}
+use Rattle.indexmap.specs.IndexSet.{insert_key, spare}
 use Rattle.plain_laws.proofs.Options.{position_none}
 use Rattle.plain_laws.proofs.Tests.{any_among, any_same}
 use Rattle.graph_pages.specs.Graph.{GraphView}
@@ -42,19 +41,7 @@ enters_hub hub v none same = record {
       (get_cases v.visited no_phases i s read);
 }
 
--- nothing has a number
-pub hubs_none : (hubs : Inside) → hubs.hubs.keys ≡ [] → hubs.visited.items ≡ [] → listed_terms hubs.graph ≤ hubs.most → hubs.most ≤ index_set_len hubs.hubs + spare hubs.hubs → hubs.most ≤ vec_capacity hubs.visited → AreMarked hubs
-unfolding IsDistinct
-hubs_none hubs none unvisited enough places roomy = record {
-  once = subst (IsDistinct same_hub) (sym none) tt;
-  of_graph = λ hub h. contains_nothing hub (subst (λ (hs : List Hub). Contains hs hub) none h);
-  same_length = ap length unvisited ∙ sym (ap length none);
-  enough = enough;
-  places = places;
-  visited_room = roomy;
-}
-
--- one more has
+-- one that has no number gets the next one
 module _ (s : Inside) (marked : AreMarked s) (v : HubsView) (seen : view_of s ≡ v) (hub : Hub) (is : IsHub v.graph hub) (absent : position (same_hub hub) v.hubs ≡ None) where
   none : position (same_hub hub) s.hubs.keys ≡ None
   none = subst (λ (u : HubsView). position (same_hub hub) u.hubs ≡ None) (sym seen) absent

@@ -1,5 +1,5 @@
 -- Numbered terminals with their phases.
-use Rattle.std.proofs.Common.{map, IsTrue, ⊎_elim, find, is_some, ◌≡◌, ℕ, Bool, true, false, List, [], ◌∷◌, ◌++◌, Option, Some, None, slice_get, get_or, position, Contains, refl, sym, ap, ◌∙◌, subst, option_map}
+use Rattle.std.proofs.Common.{IsTrue, ⊎_elim, find, is_some, ◌≡◌, ℕ, Bool, true, false, List, [], ◌∷◌, ◌++◌, Option, Some, None, slice_get, get_or, position, Contains, refl, sym, ap, ◌∙◌, subst, option_map}
 use Rattle.std.specs.Cmp.{IsEquivalence}
 use Rattle.std.specs.List.{IsDistinct, list_any}
 use Rattle.std.specs.Map.{lookup, keys_of, values_of}
@@ -66,16 +66,13 @@ module _ (eq : Term → Term → Bool) (agrees : (t u : Term) → eq t u ≡ sam
       by None is = refl
       by (Some phases) is = absurd (absent phases (Contains-from_lookup (exact_by eq agrees) t phases entries is))
 
-contains_term : (spokes : List Spoke) (spoke : Spoke) → Contains spokes spoke → Contains (map (λ (s : Spoke). s.term) spokes) spoke.term
-contains_term spokes spoke h = contains_map (λ (s : Spoke). s.term) spokes spoke h
-
 -- a terminal with a phase is listed by its owner's star
 module _ (g : GraphView) (t : Term) (p : Phase) where
   listed_spoke : (star : Star) → star_of g t.owner.number ≡ Some star → (o : Option Spoke) → find (λ (spoke : Spoke). same_term spoke.term t) star.spokes ≡ o → spoke_of g t ≡ o → IsTrue (has_phase (phases_at g t) p) → StartsAt g t.owner.number t
   listed_spoke star at None is spoke h = absurd (no_phase p (subst (λ (set : PhaseSet). IsTrue (has_phase set p)) (ap (listed_phases g) spoke) h))
   listed_spoke star at (Some spoke) is has h =
       let here : spoke.term ≡ t = term_exact spoke.term t (find_among (λ (spoke : Spoke). same_term spoke.term t) star.spokes spoke is).1 in
-      (star, at, subst (HasSpoke star) here (contains_term star.spokes spoke (find_contains (λ (spoke : Spoke). same_term spoke.term t) star.spokes spoke is)))
+      (star, at, subst (HasSpoke star) here (contains_map (λ (s : Spoke). s.term) star.spokes spoke (find_contains (λ (spoke : Spoke). same_term spoke.term t) star.spokes spoke is)))
 
   listed_star : (o : Option Star) → star_of g t.owner.number ≡ o → IsTrue (has_phase (phases_at g t) p) → StartsAt g t.owner.number t
   listed_star None at h = absurd (no_phase p (subst (λ (set : PhaseSet). IsTrue (has_phase set p))

@@ -1,12 +1,11 @@
 //! What the terminals that a search reached count for.
 
-ghost use Rattle.std.specs.Prelude.{◌≡◌, ◌+◌, ◌*◌, ◌<◌, ◌≤◌, ◌⊎◌, ◌↔◌, ◌∷◌, ◌++◌, ℕ, [], vec_len, IsTrue, Contains};
+ghost use Rattle.std.specs.Prelude.{◌≡◌, ◌+◌, ◌*◌, ◌<◌, ◌≤◌, ◌↔◌, ℕ, vec_len, IsTrue, Contains};
 ghost use Rattle.std.specs.Vec.{vec_capacity};
 ghost use Rattle.cim_words.specs.Phases.{has_phase};
 ghost use Rattle.cim_words.specs.declared.phases.Phase.{Phase};
 ghost use Rattle.cim_model.specs.Trace.{Lists, Row};
 ghost use Rattle.graph_pages.specs.Walks.{CountsFor};
-ghost use Rattle.feeder_trace.specs.Search.{IsMarked};
 ghost use Rattle.feeder_trace.specs.Rows.{Counted, AddsParts};
 
 use crate::capacity::put_within;

@@ -1,6 +1,6 @@
 //! Which places and sections a trace has visited, and in which phases, numbered in the order in which it first comes to each.
 
-ghost use Rattle.std.specs.Prelude.{◌≡◌, ◌<◌, ◌∷◌, ◌++◌, ℕ, None, [], length, position, IfOk, Some};
+ghost use Rattle.std.specs.Prelude.{◌≡◌, None, position, IfOk};
 ghost use Rattle.cim_words.specs.declared.phases.Phase.{Phase};
 ghost use Rattle.feeder_trace.specs.Hubs.{IsHub, IsVisited, Numbers, Visits, same_hub};
 ghost use Rattle.feeder_trace.specs.declared.hub.Hub.{Hub};

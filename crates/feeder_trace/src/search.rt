@@ -1,8 +1,7 @@
 //! The marks of a search, and what is still to be looked at.
 
-ghost use Rattle.std.specs.Prelude.{◌≡◌, ◌≤◌, ◌<◌, ◌∷◌, ◌++◌, ℕ, [], length, IfOk, IfSome, IfNone, Contains, IsTrue, Some, slice_get, false};
-ghost use Rattle.cim_words.specs.Phases.{has_phase, has_no_phase};
-ghost use Rattle.cim_words.specs.declared.phases.Phase.{Phase};
+ghost use Rattle.std.specs.Prelude.{◌≡◌, ◌≤◌, ◌<◌, [], length, IfOk, IfSome, IfNone, Contains, Some, slice_get, false};
+ghost use Rattle.cim_words.specs.Phases.{has_no_phase};
 ghost use Rattle.cim_words.specs.declared.phases.PhaseSet.{PhaseSet};
 ghost use Rattle.graph_pages.specs.Walks.{phases_at};
 ghost use Rattle.feeder_trace.specs.Search.{AtTerm, IsAt, IsPopped, MarksAll, Nowhere};
@@ -90,7 +89,7 @@ impl Search {
         self.pending.pop()
     }
 
-    /// Visited a terminal in those of some phases that are its own.
+    /// Marks a terminal in those of some phases that are its own.
     pub(crate) fn reach(&mut self, term: Term, phases: PhaseSet)
         ensures { MarksAll (AtTerm term phases) self.old self.new }
     {
@@ -120,7 +119,7 @@ impl Search {
         index
     }
 
-    /// Marks the terminal with a number in those of some phases that are its own.
+    /// The same, of the terminal with a number.
     fn mark(&mut self, index: usize, term: Term, own: PhaseSet, phases: PhaseSet)
         requires own { own ≡ phases_at self.old.graph term }
         requires at { slice_get self.old.terminals index ≡ Some (term, own) }

@@ -1,6 +1,6 @@
 //! Terminals, numbered in the order in which a trace first reaches them, each with its phases.
 
-ghost use Rattle.std.specs.Prelude.{◌≡◌, ◌<◌, ◌∷◌, ◌++◌, ℕ, [], length, Some, IfOk, IfSome, Contains, slice_get, slice_index_or};
+ghost use Rattle.std.specs.Prelude.{◌≡◌, ◌<◌, ◌∷◌, ◌++◌, ℕ, [], length, Some, IfOk, IfSome, Contains, slice_get};
 ghost use Rattle.room_words.specs.declared.term.Term.{Term};
 ghost use Rattle.cim_words.specs.declared.phases.PhaseSet.{PhaseSet};
 

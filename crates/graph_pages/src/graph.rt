@@ -66,7 +66,7 @@ impl Graph {
         }
     }
 
-    /// How many terminals the graph has room for: at least as many as its entries list, each counted as often as it is listed.
+    /// A number of terminals: at least as many as the entries list, each counted as often as it is listed.
     pub fn terms(&self) -> usize
         ensures { listed_terms self.now ≤ result }
     {
