@@ -2,11 +2,12 @@
 
 ghost use Rattle.std.specs.Prelude.{◌≡◌, ◌+◌, IsTrue, IfOk};
 
-use shared_parts::{NoMemory, Share, SharedPages, Steps};
+use shared_parts::{NoMemory, Share, SharedPages};
 use std::alloc::Global;
 use std::marker::Brand;
 use std::sync::ledger::{Blank, Ledger};
 use std::test::Fail;
+use step_count::Steps;
 
 /// Where numbers are put: at both ends of the list, and on both sides of an edge of pages.
 const PLACES: &[usize] = &[0, 63, 64, 299];

@@ -6,6 +6,8 @@ mod faults;
 #[cfg(test)]
 mod feeder;
 #[cfg(test)]
+mod limits;
+#[cfg(test)]
 mod pieces;
 #[cfg(test)]
 mod playing;

@@ -42,6 +42,11 @@ const SCRIPTS: &[Script] = &[
         asked: "c1 open ~b1\nc2 look\nc2 trace ~e1 ABC\nc1 stage\n%reverse\n<~76> <:Terminal.ConnectivityNode> <~a3> .\n%forward\n<~76> <:Terminal.ConnectivityNode> <~a1> .\n%end\nc1 cutover\nc2 trace ~e1 ABC\nc2 look\nc2 trace ~e1 ABC\nc2 trace ~51 ABC\nc2 look 1\nc3 look 1\nc3 trace ~e1 ABC\nc3 look 3\nc3 look 2\n",
         answered: "c1 ok 1\nc2 seen 1\nc2 trace 1 2\n~b1 ABC\n~e1 ABC\nc1 staged 0 1 1\nc1 ok 2\nc2 trace 1 2\n~b1 ABC\n~e1 ABC\nc2 seen 2\nc2 trace 2 3\n~b1 ABC\n~c1 ABC\n~e1 ABC\nc2 trace 2 2\n~51 ABC\n~b1 ABC\nc2 fault Prefix\nc3 seen 1\nc3 trace 1 2\n~b1 ABC\n~e1 ABC\nc3 fault Prefix\nc3 seen 2\nhistory 2\n1 c1 1 open ~b1\n2 c1 2 cutover\n%header\n%preconditions\n%reverse\n<~76> <:Terminal.ConnectivityNode> <~a3> .\n%forward\n<~76> <:Terminal.ConnectivityNode> <~a1> .\n%end\n",
     },
+    // The serial of a console counts its own entries.
+    Script {
+        asked: "c1 open ~b1\nc2 stage\n%reverse\n<~76> <:Terminal.ConnectivityNode> <~a3> .\n%forward\n<~76> <:Terminal.ConnectivityNode> <~a1> .\n%end\nc2 cutover\nc1 close ~b1\n",
+        answered: "c1 ok 1\nc2 staged 0 1 1\nc2 ok 2\nc1 ok 3\nhistory 3\n1 c1 1 open ~b1\n2 c2 1 cutover\n%header\n%preconditions\n%reverse\n<~76> <:Terminal.ConnectivityNode> <~a3> .\n%forward\n<~76> <:Terminal.ConnectivityNode> <~a1> .\n%end\n3 c1 2 close ~b1\n",
+    },
     Script {
         asked: "c1 opn x\nc1 open\nc1 open x\nc1 look 1\nc1 cutover\nc1 trace ~ff ABC\nc1 bye\n",
         answered: "c1 fault Word\nc1 fault Count\nc1 fault Field 1\nc1 fault Prefix\nc1 fault Staged\nc1 no 0 NoSuch\nc1 bye\nhistory 0\n",

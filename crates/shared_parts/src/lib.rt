@@ -14,4 +14,3 @@ pub use items::Items;
 pub use share::{NoMemory, Share};
 pub use shared_list::SharedList;
 pub use shared_pages::SharedPages;
-pub use step_count::Steps;
