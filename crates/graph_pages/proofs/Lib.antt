@@ -1,1 +1,6 @@
-pub mod BuildLemmas
+pub mod Items
+pub mod Spread
+pub mod OneBucket
+pub mod Gathering
+pub mod Places
+pub mod Changes

@@ -1,4 +1,6 @@
 pub mod Graph
-pub mod Held
+pub mod Keyed
+pub mod Buckets
+pub mod Fold
 pub mod Size
 pub mod Walks

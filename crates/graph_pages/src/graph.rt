@@ -7,38 +7,27 @@ ghost use Rattle.graph_pages.specs.Graph.{members_of, star_in, star_of};
 ghost use Rattle.graph_pages.specs.Size.{listed_terms};
 ghost use Rattle.graph_pages.specs.declared.star.Star.{Star};
 
+use crate::edit::GraphEdit;
+use crate::entries::Entries;
+use crate::maps::Maps;
 use crate::star::Star;
 use cim_words::{Id, NoMemory};
 use room_words::{Anchor, Members};
-use std::collections::BTreeMap;
-use std::collections::btree_map::Values;
+use shared_parts::Share;
 use std::marker::Model;
-use std::sync::Arc;
-
-/// The two maps, and how many terminals their entries list.
-#[derive(Drop)]
-pub(crate) struct Maps {
-    pub(crate) stars: BTreeMap<Id, Star>,
-    pub(crate) places: BTreeMap<Anchor, Members>,
-    pub(crate) terms: usize,
-}
 
 /// Two finite maps, which are shared and do not change: from equipment and items to their stars, and from places to their members.
 #[derive(Drop)]
 pub struct Graph {
-    pub(crate) shared: Arc<Maps>,
+    pub(crate) maps: Maps,
 }
 
 impl Model for Graph {
-    ghost use Rattle.std.specs.Arc.{arc_value};
     ghost use Rattle.graph_pages.specs.Graph.{GraphView};
-    ghost use Rattle.graph_pages.specs.Held.{IsHeld, view_of};
 
     ghost Value = { GraphView };
 
-    ghost view = { λ graph. view_of (arc_value graph.shared) };
-
-    ghost invariant = { λ graph. IsHeld (arc_value graph.shared) };
+    ghost view = { λ graph. graph.maps };
 }
 
 impl Graph {
@@ -46,14 +35,14 @@ impl Graph {
     pub fn star(&self, id: Id) -> Option<&Star>
         ensures { option_copied result ≡ star_of self.now id.number }
     {
-        self.shared.stars.get(&id)
+        self.maps.star(id)
     }
 
     /// The terminals at a place.
     pub fn members(&self, place: Anchor) -> Option<&Members>
         ensures { option_copied result ≡ members_of self.now place }
     {
-        self.shared.places.get(&place)
+        self.maps.members(place)
     }
 
     /// Goes over the stars, each once, in no stated order: a look-up among them gives what a look-up in the graph gives.
@@ -62,7 +51,7 @@ impl Graph {
         ensures once { IsDistinct nat_eq (map (λ (star : Star). star.id.number) result) }
     {
         Stars {
-            rest: self.shared.stars.values(),
+            rest: self.maps.stars.entries(),
         }
     }
 
@@ -70,7 +59,7 @@ impl Graph {
     pub fn terms(&self) -> usize
         ensures { listed_terms self.now ≤ result }
     {
-        self.shared.terms
+        self.maps.terms()
     }
 
     /// The same graph once more.
@@ -78,7 +67,16 @@ impl Graph {
         ensures { IfOk result (λ graph. graph ≡ self.now) }
     {
         Ok(Graph {
-            shared: Arc::try_clone(&self.shared)?,
+            maps: self.maps.share()?,
+        })
+    }
+
+    /// The same maps, to be changed entry by entry. This graph and its shares keep what they hold.
+    pub fn edit(&self) -> Result<GraphEdit, NoMemory>
+        ensures { IfOk result (λ edit. edit ≡ self.now) }
+    {
+        Ok(GraphEdit {
+            maps: self.maps.share()?,
         })
     }
 }
@@ -86,7 +84,7 @@ impl Graph {
 /// Goes over the stars of a graph.
 #[derive(Drop)]
 pub struct Stars<'a> {
-    rest: Values<'a, Id, Star>,
+    rest: Entries<'a, Star>,
 }
 
 impl<'a> Model for Stars<'a> {

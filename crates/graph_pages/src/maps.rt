@@ -1,0 +1,68 @@
+//! The two maps of a graph.
+
+ghost use Rattle.std.specs.Prelude.{◌≡◌, ◌≤◌, option_copied};
+ghost use Rattle.graph_pages.specs.Graph.{members_of, star_of};
+ghost use Rattle.graph_pages.specs.Size.{listed_terms};
+
+use crate::paged_map::PagedMap;
+use crate::star::Star;
+use cim_words::{Id, NoMemory};
+use room_words::{Anchor, Members};
+use shared_parts::Share;
+use std::marker::Model;
+
+/// The two maps, and a number of terminals: at least as many as their entries list.
+#[derive(Drop)]
+pub(crate) struct Maps {
+    pub(crate) stars: PagedMap<Star>,
+    pub(crate) places: PagedMap<(Anchor, Members)>,
+    pub(crate) terms: usize,
+}
+
+impl Model for Maps {
+    ghost use Rattle.std.specs.Prelude.{◌≤◌};
+    ghost use Rattle.graph_pages.specs.Graph.{GraphView};
+    ghost use Rattle.graph_pages.specs.Size.{listed_terms};
+
+    ghost Value = { GraphView };
+
+    ghost view = { λ maps. record { stars = maps.stars; places = maps.places } };
+
+    ghost invariant = { λ maps. listed_terms (record { stars = maps.stars; places = maps.places }) ≤ maps.terms };
+}
+
+impl Maps {
+    /// The star of a piece of equipment or item.
+    pub(crate) fn star(&self, id: Id) -> Option<&Star>
+        ensures { option_copied result ≡ star_of self.now id.number }
+    {
+        self.stars.get(id.number)
+    }
+
+    /// The terminals at a place.
+    pub(crate) fn members(&self, place: Anchor) -> Option<&Members>
+        ensures { option_copied result ≡ members_of self.now place }
+    {
+        match self.places.get(place) {
+            Some((_, members)) => Some(members),
+            None => None,
+        }
+    }
+
+    /// A number of terminals: at least as many as the entries list.
+    pub(crate) fn terms(&self) -> usize
+        ensures { listed_terms self.now ≤ result }
+    {
+        self.terms
+    }
+}
+
+impl Share for Maps {
+    fn share(&self) -> Result<Maps, NoMemory> {
+        Ok(Maps {
+            stars: self.stars.share()?,
+            places: self.places.share()?,
+            terms: self.terms,
+        })
+    }
+}
