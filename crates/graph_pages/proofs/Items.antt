@@ -65,10 +65,10 @@ module _ {T K : Type 0} (key : T → K) (same : K → K → Bool) (itself : (k :
   found_but_step k q t ts false is rest =
       ap (cond (same (key t) q) (Some t)) rest
       ∙ either (same k q) (same (key t) q) (Some t) (item_at key same q ts) (λ one other.
-          let e : key t ≡ k = exact (key t) q other ∙ sym (exact k q one) in
-          let yes : same (key t) k ≡ true = subst (λ (o : K). same (key t) o ≡ true) e (itself (key t)) in
-          let apart : same (key t) k ≡ false = is in
-          cc)
+      let e : key t ≡ k = exact (key t) q other ∙ sym (exact k q one) in
+      let yes : same (key t) k ≡ true = subst (λ (o : K). same (key t) o ≡ true) e (itself (key t)) in
+      let apart : same (key t) k ≡ false = is in
+      cc)
 
   pub found_but : (k q : K) (ts : List T) → item_at key same q (items_but key same k ts) ≡ cond (same k q) None (item_at key same q ts)
   found_but k q [] = no_choice (same k q) None

@@ -1,5 +1,5 @@
 -- The bucket of a key: what it says of all items, and what all items are after another takes its place.
-use Rattle.std.proofs.Common.{◌≡◌, ℕ, ◌+◌, ◌<◌, Bool, true, cond, List, [], ◌∷◌, ◌++◌, length, get_or, set, Option, None, Some, refl, sym, ap, ◌∙◌, subst, arith}
+use Rattle.std.proofs.Common.{◌≡◌, ℕ, ◌+◌, ◌<◌, Bool, true, cond, List, [], ◌∷◌, ◌++◌, length, get_or, set, Option, None, Some, sym, ap, ◌∙◌, subst, arith}
 use Rattle.std.specs.List.{sum_by}
 use Rattle.std.proofs.Math.Nat.{mod-lt}
 use Rattle.std.proofs.lemmas.List.{get_or_default, length-set}
@@ -61,8 +61,8 @@ module _ {T K : Type 0} (key : T → K) (same : K → K → Bool) (fold : K → 
   fits_put t named =
       subst (λ (c : K). IsBucket key same fold (length buckets) (place_of fold (length buckets) c) (items_but key same k b ++ t ∷ [])) named
       (bucket_push key same fold itself exact (length buckets) t (items_but key same k b)
-        (subst (λ (c : K). IsBucket key same fold (length buckets) (place_of fold (length buckets) c) (items_but key same k b)) (sym named) fits_but)
-        (ap (λ (c : K). item_at key same c (items_but key same k b)) named ∙ gone key same itself exact k b))
+      (subst (λ (c : K). IsBucket key same fold (length buckets) (place_of fold (length buckets) c) (items_but key same k b)) (sym named) fits_but)
+      (ap (λ (c : K). item_at key same c (items_but key same k b)) named ∙ gone key same itself exact k b))
 
   pub put_there : (t : T) → key t ≡ k → (q : K) → item_at key same q (all_items (set buckets n (items_but key same k b ++ t ∷ []))) ≡ cond (same k q) (Some t) (item_at key same q (all_items buckets))
   put_there t named =
@@ -83,8 +83,8 @@ module _ {T K : Type 0} (key : T → K) (same : K → K → Bool) (fold : K → 
   fits_more t named none =
       subst (λ (c : K). IsBucket key same fold (length buckets) (place_of fold (length buckets) c) (b ++ t ∷ [])) named
       (bucket_push key same fold itself exact (length buckets) t b
-        (subst (λ (c : K). IsBucket key same fold (length buckets) (place_of fold (length buckets) c) b) (sym named) own)
-        (ap (λ (c : K). item_at key same c b) named ∙ none))
+      (subst (λ (c : K). IsBucket key same fold (length buckets) (place_of fold (length buckets) c) b) (sym named) own)
+      (ap (λ (c : K). item_at key same c b) named ∙ none))
 
   pub stay_more : (t : T) → key t ≡ k → item_at key same k (all_items buckets) ≡ None → AreBuckets key same fold (set buckets n (b ++ t ∷ []))
   stay_more t named none = stay (b ++ t ∷ []) (fits_more t named (found_at ∙ none))
@@ -93,4 +93,4 @@ module _ {T K : Type 0} (key : T → K) (same : K → K → Bool) (fold : K → 
   found_more t named none =
       found_after (b ++ t ∷ []) (fits_more t named (found_at ∙ none)) (Some t)
       (λ q. subst (λ (c : K). item_at key same q (b ++ t ∷ []) ≡ cond (same c q) (Some t) (item_at key same q b)) named
-        (found_push key same itself exact t q b (ap (λ (c : K). item_at key same c b) named ∙ found_at ∙ none)))
+      (found_push key same itself exact t q b (ap (λ (c : K). item_at key same c b) named ∙ found_at ∙ none)))

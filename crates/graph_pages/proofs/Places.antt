@@ -1,5 +1,5 @@
 -- Members among the entries of places.
-use Rattle.std.proofs.Common.{◌≡◌, ℕ, ◌+◌, Bool, true, false, cond, List, [], ◌∷◌, length, Option, None, Some, refl, sym, ap, ◌∙◌, arith}
+use Rattle.std.proofs.Common.{◌≡◌, ℕ, ◌+◌, Bool, true, false, cond, List, [], ◌∷◌, Option, None, Some, refl, sym, ap, ◌∙◌, arith}
 use Rattle.std.specs.List.{sum_by}
 use Rattle.std.specs.Map.{lookup, values_of}
 use Rattle.std.specs.Option.{option_map}
@@ -63,7 +63,7 @@ members_sizes {X} size new old place come sizes =
     let after = counts_are size new in
     let before = counts_are size old in
     let gone : size_in (λ (entry : Anchor × X). size entry.1) (entry_at place old) ≡ size_in size (lookup (same_anchor place) old) =
-      count_is size (entry_at place old) ∙ ap (size_in size) (sym (members_are old place)) in
+    count_is size (entry_at place old) ∙ ap (size_in size) (sym (members_are old place)) in
     omega arith
 
 pub members_gone : {X : Type 0} (size : X → ℕ) (new old : List (Anchor × X)) (place : Anchor)

@@ -1,6 +1,6 @@
 -- What is found among the items of all buckets.
-use Rattle.std.proofs.Common.{◌≡◌, ◌≢◌, ℕ, zero, suc, ◌+◌, ◌%◌, ◌<◌, Bool, true, false, cond, List, [], ◌∷◌, ◌++◌, map, find, length, get_or, set, Option, None, Some, refl, sym, ap, ◌∙◌, subst, arith, inl, inr}
-use Rattle.std.specs.List.{AllByRecursion, IsDistinct, sum_by, flat_map}
+use Rattle.std.proofs.Common.{◌≡◌, ◌≢◌, ℕ, zero, suc, ◌+◌, ◌<◌, Bool, true, false, cond, List, [], ◌∷◌, ◌++◌, map, find, length, get_or, set, Option, None, Some, refl, sym, ap, ◌∙◌, subst, arith, inl, inr}
+use Rattle.std.specs.List.{AllByRecursion, IsDistinct, sum_by}
 use Rattle.std.specs.Option.{option_or}
 use Rattle.std.proofs.Math.Nat.{mod-lt}
 use Rattle.std.proofs.lemmas.Bool.Decides.{eqb_tells}
@@ -8,7 +8,7 @@ use Rattle.std.proofs.lemmas.List.{map-append, get_or-set_same, get_or-set_other
 use Rattle.std.proofs.lemmas.List.Folds.{find-append}
 use Rattle.std.proofs.lemmas.List.Sums.{sum_by-append, sum_by-cons, sum_by-set}
 use Rattle.graph_pages.specs.Buckets.{AreBuckets, IsBucket, all_items, place_of}
-use Rattle.graph_pages.specs.Keyed.{item_at, items_but, size_in}
+use Rattle.graph_pages.specs.Keyed.{item_at, items_but}
 use Rattle.graph_pages.proofs.Items.{all_but, all_push, differ_but, differ_push, not_true}
 
 -- ---- a test that passes nothing outside one bucket
@@ -164,10 +164,10 @@ module _ {T K : Type 0} (key : T → K) (same : K → K → Bool) (fold : K → 
       let first : IsBucket key same fold count (start + zero) b = are zero (grind arith) in
       subst (IsDistinct same) (sym (map-append key b (all_items bs)))
       (differ_both same (map key b) (map key (all_items bs)) first.differ (differ_from count (suc start) bs (shifted count start b bs are))
-        (all_apart count (start + zero) b (all_items bs) first.belong (later count (start + zero) (suc start) bs (omega arith) (shifted count start b bs are))))
+      (all_apart count (start + zero) b (all_items bs) first.belong (later count (start + zero) (suc start) bs (omega arith) (shifted count start b bs are))))
 
   pub all_differ : (buckets : List (List T)) → AreBuckets key same fold buckets → IsDistinct same (map key (all_items buckets))
   all_differ buckets are =
       differ_from (length buckets) 0 buckets (λ i within.
-        let e : i ≡ 0 + i = omega arith in
-        subst (λ m. IsBucket key same fold (length buckets) m (get_or buckets i [])) e (are i within))
+      let e : i ≡ 0 + i = omega arith in
+      subst (λ m. IsBucket key same fold (length buckets) m (get_or buckets i [])) e (are i within))

@@ -34,11 +34,7 @@ impl Model for GraphEdit {
 
 impl GraphEdit {
     /// Puts a star, in place of the one of its identifier if there is one.
-    pub fn put_star<L: Ledger>(
-        &mut self,
-        star: Star,
-        steps: &mut Steps<L>,
-    ) -> Result<(), NoMemory>
+    pub fn put_star<L: Ledger>(&mut self, star: Star, steps: &mut Steps<L>) -> Result<(), NoMemory>
         ensures stars { OnOk result ((x : ℕ) → star_of self.new x ≡ cond (star.id.number == x) (Some star) (star_of self.old x)) }
         ensures members { OnOk result ((place : Anchor) → members_of self.new place ≡ members_of self.old place) }
         ensures refused { OnErr result (self.new ≡ self.old) }

@@ -40,6 +40,7 @@ impl Maps {
     }
 
     /// The terminals at a place.
+    #[tactic(auto, using(crate::proofs::Places::members_are))]
     pub(crate) fn members(&self, place: Anchor) -> Option<&Members>
         ensures { option_copied result ≡ members_of self.now place }
     {

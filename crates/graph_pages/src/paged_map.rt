@@ -43,11 +43,7 @@ impl<T: Keyed> PagedMap<T> {
     }
 
     /// Puts an item under its key, one tick. Where it is refused, the items are as before.
-    pub(crate) fn put<L: Ledger>(
-        &mut self,
-        item: T,
-        steps: &mut Steps<L>,
-    ) -> Result<(), NoMemory>
+    pub(crate) fn put<L: Ledger>(&mut self, item: T, steps: &mut Steps<L>) -> Result<(), NoMemory>
         ensures found { OnOk result ((k : T.Key) → item_at T.key_of T.same_key k self.new
             ≡ cond (T.same_key (T.key_of item) k) (Some item) (item_at T.key_of T.same_key k self.old)) }
         ensures sizes { OnOk result ((size : T → ℕ) → sum_by size self.new + size_in size (item_at T.key_of T.same_key (T.key_of item) self.old)

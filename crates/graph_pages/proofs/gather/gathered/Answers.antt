@@ -1,4 +1,4 @@
-use Rattle.std.proofs.Common.{◌≡◌, ◌<◌, List, ◌++◌, ◌∷◌, length, map, sym, ap, ◌∙◌, subst, arith}
+use Rattle.std.proofs.Common.{◌<◌, ◌++◌, length, map, sym, ap, ◌∙◌, subst, arith}
 use Rattle.std.proofs.lemmas.Grind.{common_steps}
 use Rattle.std.proofs.lemmas.Iterator.Adapters.{YieldsList-from_vec}
 use Rattle.std.proofs.lemmas.Iterator.Consumers.{YieldsList-end}
@@ -32,8 +32,7 @@ loop-item-preserved g c =
     let differ = subst (λ ts. IsDistinct keyed.same_key (map keyed.key_of ts)) whole c.requires.different in
     let some = subst (λ n. 0 < n) (sym before.2) c.requires.some in
     let is = c.place_of-place.ensures.is ∙ ap (λ n. place_of keyed.fold_of n c.key.result) (sym before.2) ∙ ap (place_of keyed.fold_of (length old)) c.key.ensures in
-    rw c.in_ok-push_at.ensures
-    (
+    rw c.in_ok-push_at.ensures (
       tt,
       tt,
       length-set old c.place_of-place.result _ ∙ before.2,

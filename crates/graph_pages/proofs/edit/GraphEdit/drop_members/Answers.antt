@@ -1,4 +1,4 @@
-use Rattle.std.proofs.Common.{◌≡◌, ◌+◌, List, None, cond, length, sum_by, sym, ap, ◌∙◌}
+use Rattle.std.proofs.Common.{◌+◌, List, None, cond, length, sum_by, sym, ap, ◌∙◌}
 use Rattle.std.specs.Map.{values_of}
 use Rattle.graph_pages.specs.Graph.{GraphView, members_of}
 use Rattle.graph_pages.specs.Keyed.{size_in}
@@ -16,10 +16,10 @@ invariant_of-self-inside-2 g c =
     let view = ap (λ outer. outer.maps) c.self-inside.view_is ∙ c.self.view_is in
     let gone = c.terms_at-gone.ensures ∙ ap (λ (view : GraphView). size_in length (members_of view c.args.place)) (sym view) in
     room_left_beside (sum_by length (values_of inside.places)) (sum_by length (values_of c.remove.new.self)) (sum_by terms_of_star inside.stars) inside.terms c.terms_at-gone.result
-      c.saturating_sub-self-inside-inside.result c.self-inside.invariant
-      (ap (λ n. sum_by length (values_of c.remove.new.self) + n) gone
-        ∙ members_gone length c.remove.new.self inside.places c.args.place (c.in_ok-remove.ensures.sizes (λ (entry : Anchor × List Term). length entry.1)))
-      c.saturating_sub-self-inside-inside.ensures
+    c.saturating_sub-self-inside-inside.result c.self-inside.invariant
+    (ap (λ n. sum_by length (values_of c.remove.new.self) + n) gone
+    ∙ members_gone length c.remove.new.self inside.places c.args.place (c.in_ok-remove.ensures.sizes (λ (entry : Anchor × List Term). length entry.1)))
+    c.saturating_sub-self-inside-inside.ensures
 
 pub returns-clause-members : goal.returns-clause-members
 returns-clause-members g c other =

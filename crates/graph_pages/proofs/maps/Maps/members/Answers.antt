@@ -1,4 +1,4 @@
-use Rattle.std.proofs.Common.{List, Option, option_map, sym, ap, ◌∙◌}
+use Rattle.std.proofs.Common.{List, option_map, sym, ap, ◌∙◌}
 use Rattle.graph_pages.specs.Graph.{GraphView, members_of}
 use Rattle.graph_pages.proofs.Places.{members_are}
 use Rattle.room_words.specs.declared.anchor.Anchor.{Anchor}

@@ -9,5 +9,5 @@ returns g c =
     let keyed = g.T.Keyed in
     c.get-2.ensures
     ∙ found_at keyed.key_of keyed.same_key keyed.fold_of g.met.T.Keyed.itself g.met.T.Keyed.exact c.self.inside.buckets c.place_of-place.result c.args.key c.get.result.now c.self.invariant.0 c.self.invariant.1
-      (c.place_of-place.ensures.is ∙ ap (λ n. place_of keyed.fold_of n c.args.key) c.len.ensures) c.get.ensures
+    (c.place_of-place.ensures.is ∙ ap (λ n. place_of keyed.fold_of n c.args.key) c.len.ensures) c.get.ensures
     ∙ ap (item_at keyed.key_of keyed.same_key c.args.key) c.self.view_is
