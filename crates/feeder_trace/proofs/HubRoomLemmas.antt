@@ -11,7 +11,7 @@ use Rattle.indexmap.specs.IndexSet.{insert_key, spare}
 use Rattle.plain_laws.proofs.Options.{position_none}
 use Rattle.plain_laws.proofs.Tests.{any_among, any_same}
 use Rattle.graph_pages.specs.Graph.{GraphView}
-use Rattle.graph_pages.specs.Size.{listed_terms}
+use Rattle.graph_pages.specs.Size.{listed_hubs}
 use Rattle.cim_model.specs.Phases.{no_phases}
 use Rattle.cim_words.specs.Phases.{has_phase}
 use Rattle.cim_words.specs.declared.phases.Phase.{Phase}
@@ -76,7 +76,7 @@ module _ (s : Inside) (marked : AreMarked s) (v : HubsView) (seen : view_of s �
         once = rw grown once_more;
         of_graph = λ other h. subst (λ (g : GraphView). IsHub g other) (sym same) (of_graph_more other (subst (λ (hs : List Hub). Contains hs other) grown h));
         same_length = omega (arith, longer, ap length pushed, length_push s.visited.items no_phases, marked.same_length);
-        enough = subst (λ (g : GraphView). listed_terms g ≤ new.most) (sym same) (omega (arith, most, marked.enough));
+        enough = subst (λ (g : GraphView). listed_hubs g ≤ new.most) (sym same) (omega (arith, most, marked.enough));
         places = omega (arith, most, longer, places, marked.places);
         visited_room = omega (arith, most, roomy, marked.visited_room);
       }

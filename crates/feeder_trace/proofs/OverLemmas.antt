@@ -1,5 +1,5 @@
 -- Going over places and sections once a phase.
-use Rattle.std.proofs.Common.{◌≡◌, ◌⊎◌, ℕ, false, List, Some, None, slice_get, get_or, take, length, ◌<◌, ◌+◌, IsTrue, Contains, refl, sym, ap, ◌∙◌, subst, inl, inr, ⊎_elim, true≢false}
+use Rattle.std.proofs.Common.{◌≡◌, ◌↔◌, ◌⊎◌, ℕ, false, List, Some, None, slice_get, get_or, length, ◌<◌, IsTrue, Contains, refl, sym, ap, ◌∙◌, subst, inl, inr, ⊎_elim, true≢false}
 use Rattle.std.proofs.lemmas.Option.{same_Some, slice_get-get_or}
 use Rattle.cim_words.specs.Phases.{has_phase}
 use Rattle.cim_words.specs.declared.identifier.Id.{Id}
@@ -12,12 +12,11 @@ use Rattle.room_words.specs.declared.term.Term.{Term}
 use Rattle.room_words.specs.declared.anchor.Anchor.{Anchor}
 use Rattle.feeder_trace.specs.Hubs.{HubsView, Visits, IsVisited, StandsIn}
 use Rattle.feeder_trace.specs.Numbering.{IsOwn}
-use Rattle.feeder_trace.specs.Spread.{AtHub, IsOver, AmongMembers, AtPlaceOf, InSections}
+use Rattle.feeder_trace.specs.Spread.{AtHub, IsOver, AmongMembers, AtPlaceOf}
 use Rattle.feeder_trace.specs.Search.{SearchView, IsMarked, IsPopped, IsSet, MarksAll}
 use Rattle.feeder_trace.specs.declared.hub.Hub.{Hub}
 use Rattle.feeder_trace.specs.declared.hub.Hub.TheVariants.{Place, Section}
 use Rattle.feeder_trace.proofs.MarkLemmas.{marks_nothing, marks_as}
-use Rattle.feeder_trace.proofs.SpreadLemmas.{sections_more}
 
 -- what may be marked beyond a step is marked already
 marks_rest : (may may' : Point → Type 0) (a b : SearchView) → ((x : Point) → may x → may' x) → ((x : Point) → may' x → IsOwn a.graph x → may x ⊎ IsMarked a x) → MarksAll may a b → MarksAll may' a b
@@ -77,16 +76,26 @@ module _ (g : GraphView) (old new : HubsView) (hub : Hub) (phases left : PhaseSe
 pub hub_nothing : (g : GraphView) (hub : Hub) (left : PhaseSet) (v : SearchView) → ((p : Phase) → has_phase left p ≡ false) → MarksAll (AtHub g hub left) v v
 hub_nothing g hub left v none = marks_nothing (AtHub g hub left) v (λ x h own. absurd (true≢false (sym h.1 ∙ none x.phase)))
 
--- ---- places
-pub place_unvisited : (g : GraphView) (place : Anchor) (left : PhaseSet) (v : SearchView) → members_of g place ≡ None → MarksAll (AtHub g (Place place) left) v v
-place_unvisited g place left v none =
-    marks_nothing (AtHub g (Place place) left) v (λ x h own. let no : ◌≡◌ (Some h.0.0) None = sym h.0.1 ∙ none in absurd cc)
+-- a place or section of which the terminals are given
+module _ (g : GraphView) (hub : Hub) (terms : List Term) (stands : (t : Term) → StandsIn g hub t ↔ Contains terms t) where
+  pub among_hub : (phases : PhaseSet) (a b : SearchView) → MarksAll (AmongMembers terms phases) a b → MarksAll (AtHub g hub phases) a b
+  among_hub phases a b = marks_as (AmongMembers terms phases) (AtHub g hub phases) a b (λ x h. ((stands x.term).1 h.0, h.1)) (λ x h own. ((stands x.term).0 h.0, h.1))
 
-pub place_members : (g : GraphView) (place : Anchor) (members : List Term) (left : PhaseSet) (a b : SearchView) → members_of g place ≡ Some members → MarksAll (AmongMembers members left) a b → MarksAll (AtHub g (Place place) left) a b
-place_members g place members left a b has =
-    marks_as (AmongMembers members left) (AtHub g (Place place) left) a b
-    (λ x h. ((members, has, h.0), h.1))
-    (λ x h own. (subst (λ (ms : List Term). Contains ms x.term) (same_Some h.0.0 members (sym h.0.1 ∙ has)) h.0.2, h.1))
+  hub_among : (phases : PhaseSet) (a b : SearchView) → MarksAll (AtHub g hub phases) a b → MarksAll (AmongMembers terms phases) a b
+  hub_among phases a b = marks_as (AtHub g hub phases) (AmongMembers terms phases) a b (λ x h. ((stands x.term).0 h.0, h.1)) (λ x h own. ((stands x.term).1 h.0, h.1))
+
+  -- it was visited in what was left
+  module _ (old new : HubsView) (phases left : PhaseSet) (a b : SearchView) (over : IsOver g old a) (went : Visits hub phases left old new) (m : MarksAll (AtHub g hub left) a b) where
+    pub hub_marks : MarksAll (AmongMembers terms phases) a b
+    hub_marks = hub_among phases a b (over_marks g old new hub phases left a b over went m)
+
+-- ---- places
+pub place_stands : (g : GraphView) (place : Anchor) (members : List Term) → members_of g place ≡ Some members → (t : Term) → StandsIn g (Place place) t ↔ Contains members t
+place_stands g place members has t = (λ h. subst (λ (ms : List Term). Contains ms t) (same_Some h.0 members (sym h.1 ∙ has)) h.2, λ h. (members, has, h))
+
+pub place_empty : (g : GraphView) (place : Anchor) (phases : PhaseSet) (v : SearchView) → members_of g place ≡ None → MarksAll (AtHub g (Place place) phases) v v
+place_empty g place phases v none =
+    marks_nothing (AtHub g (Place place) phases) v (λ x h own. let no : ◌≡◌ (Some h.0.0) None = sym h.0.1 ∙ none in absurd cc)
 
 pub place_of : (g : GraphView) (t : Term) (phases : PhaseSet) (place : Anchor) (a b : SearchView) → place_at g t ≡ Some place → MarksAll (AtHub g (Place place) phases) a b → MarksAll (AtPlaceOf g t phases) a b
 place_of g t phases place a b at =
@@ -97,34 +106,15 @@ place_of g t phases place a b at =
     ((members, ap (members_of g) (sym one) ∙ has, stands), subst (λ (q : Phase). IsTrue (has_phase phases q)) same asked))
 
 -- ---- sections
-module _ (g : GraphView) (segment : Id) (line : Line) (n : ℕ) (section : List Term) (at : line_of g segment.number ≡ Some line) (is : slice_get line.sections n ≡ Some section) where
-  stands_in : (t : Term) → StandsIn g (Section segment n) t → Contains section t
-  stands_in t (other, at', terms, is', has) =
+pub section_stands : (g : GraphView) (segment : Id) (line : Line) (n : ℕ) (section : List Term) → line_of g segment.number ≡ Some line → slice_get line.sections n ≡ Some section → (t : Term) → StandsIn g (Section segment n) t ↔ Contains section t
+section_stands g segment line n section at is t = (
+  λ (other, at', terms, is', has).
       let one : other ≡ line = same_Some other line (sym at' ∙ at) in
-      subst (λ (ts : List Term). Contains ts t) (same_Some terms section (sym is' ∙ ap (λ (l : Line). slice_get l.sections n) one ∙ is)) has
-
-  pub section_members : (phases : PhaseSet) (a b : SearchView) → MarksAll (AmongMembers section phases) a b → MarksAll (AtHub g (Section segment n) phases) a b
-  section_members phases a b =
-      marks_as (AmongMembers section phases) (AtHub g (Section segment n) phases) a b
-      (λ x h. ((line, at, section, is, h.0), h.1))
-      (λ x h own. (stands_in x.term h.0, h.1))
-
-  members_of_section : (phases : PhaseSet) (a b : SearchView) → MarksAll (AtHub g (Section segment n) phases) a b → MarksAll (AmongMembers section phases) a b
-  members_of_section phases a b =
-      marks_as (AtHub g (Section segment n) phases) (AmongMembers section phases) a b
-      (λ x h. (stands_in x.term h.0, h.1))
-      (λ x h own. ((line, at, section, is, h.0), h.1))
+      subst (λ (ts : List Term). Contains ts t) (same_Some terms section (sym is' ∙ ap (λ (l : Line). slice_get l.sections n) one ∙ is)) has,
+  λ has. (line, at, section, is, has),
+)
 
 -- the section at an index
 pub section_at : (sections items : List (List Term)) (n : ℕ) (section : List Term) → items ≡ sections → n < length items → section ≡ get_or items n section → slice_get sections n ≡ Some section
 section_at sections items n section same within is =
     subst (λ (ss : List (List Term)). slice_get ss n ≡ Some section) same (slice_get-get_or items n section within ∙ ap Some (sym is))
-
--- one more section in which a terminal stands was visited
-module _ (g : GraphView) (segment : Id) (line : Line) (items : List (List Term)) (n : ℕ) (section : List Term) (t : Term) (phases left : PhaseSet) (old new : HubsView) (a b c : SearchView) (at : line_of g segment.number ≡ Some line) (same : items ≡ line.sections) (within : n < length items) (is : section ≡ get_or items n section) (has : Contains section t) where
-  pub section_more : MarksAll (InSections (take n items) t phases) a b → IsOver g old b → Visits (Section segment n) phases left old new → MarksAll (AtHub g (Section segment n) left) b c → MarksAll (InSections (take (n + 1) items) t phases) a c × IsOver g new c
-  section_more first over went m = (
-    sections_more items n section section t phases a b c within is has first
-        (members_of_section g segment line n section at (section_at line.sections items n section same within is) phases b c (over_marks g old new (Section segment n) phases left b c over went m)),
-    over_more g old new (Section segment n) phases left b c over went m,
-  )

@@ -10,7 +10,7 @@ use Rattle.cim_words.specs.Phases.{has_phase, has_no_phase}
 use Rattle.cim_words.specs.declared.phases.Phase.{Phase}
 use Rattle.cim_words.specs.declared.phases.PhaseSet.{PhaseSet}
 use Rattle.graph_pages.specs.Graph.{GraphView}
-use Rattle.graph_pages.specs.Size.{listed_terms}
+use Rattle.graph_pages.specs.Size.{listed_spokes}
 use Rattle.graph_pages.specs.Walks.{phases_at}
 use Rattle.room_words.specs.declared.term.Term.{Term}
 use Rattle.feeder_trace.specs.Room.{HasRoom, view_of}
@@ -123,7 +123,7 @@ module _ (s : Inside) (room : HasRoom s) (v : SearchView) (seen : view_of s ≡ 
       (rw entered (rw same (rw pushed (grown_marks t own (view_of s) room_to_enter room.same_length))))
 
 -- a search in which nothing is marked has room
-pub room_empty : (g : GraphView) (terminals : TerminalsView) (reached : Vec PhaseSet Global) (pending : Vec (Term × PhaseSet) Global) → terminals.listed ≡ [] → listed_terms g ≤ terminals.most → reached.items ≡ [] → pending.items ≡ [] → terminals.most ≤ vec_capacity reached → 6 * terminals.most ≤ vec_capacity pending
+pub room_empty : (g : GraphView) (terminals : TerminalsView) (reached : Vec PhaseSet Global) (pending : Vec (Term × PhaseSet) Global) → terminals.listed ≡ [] → listed_spokes g ≤ terminals.most → reached.items ≡ [] → pending.items ≡ [] → terminals.most ≤ vec_capacity reached → 6 * terminals.most ≤ vec_capacity pending
     → HasRoom (record { graph = g; terminals = terminals; reached = reached; pending = pending })
 room_empty g terminals reached pending none enough unmarked_all idle roomy waits = record {
   numbering = numbering_none g terminals.listed none;

@@ -1,5 +1,5 @@
 -- A graph has no more terminals, places and sections to which a trace can come than it counts.
-use Rattle.std.proofs.Common.{eqb, find, ◌≡◌, ◌+◌, ◌≤◌, ℕ, zero, suc, List, [], ◌∷◌, ◌++◌, length, map, Option, Some, None, slice_get, sum_by, Contains, refl, sym, ap, ◌∙◌, subst, arith, length-append}
+use Rattle.std.proofs.Common.{eqb, ◌≡◌, ◌+◌, ◌≤◌, ℕ, zero, suc, Bool, true, false, cond, List, [], ◌∷◌, ◌++◌, length, map, Option, Some, None, slice_get, sum_by, Contains, refl, sym, ap, ◌∙◌, subst, arith, length-append}
 use Rattle.std.specs.List.{IsDistinct, flat_map}
 use Rattle.std.specs.Map.{keys_of}
 use Rattle.std.proofs.lemmas.List.{length-map}
@@ -9,21 +9,21 @@ use Rattle.std.proofs.lemmas.List.Sums.{sum_by-cons}
 use Rattle.std.proofs.lemmas.Map.Made.{length-le_from_is_member}
 use Rattle.std.proofs.lemmas.Map.Views.{Contains-from_any, list_any-from_Contains}
 use Rattle.std.proofs.lemmas.Option.{same_Some}
-use Rattle.plain_laws.proofs.Members.{contains_first, contains_flat_map, contains_map}
+use Rattle.plain_laws.proofs.Members.{contains_first, contains_flat_map, contains_rest}
 use Rattle.plain_laws.proofs.Options.{find_contains, some_none}
 use Rattle.cim_words.proofs.Statements.{same_id}
 use Rattle.cim_words.specs.PhaseNames.{and_then}
 use Rattle.cim_words.specs.declared.identifier.Id.{Id}
 use Rattle.cim_words.specs.declared.phases.PhaseSet.{PhaseSet}
-use Rattle.graph_pages.specs.Graph.{GraphView, star_of}
-use Rattle.graph_pages.specs.Size.{listed_terms, terms_in_sections, terms_of_star}
-use Rattle.graph_pages.specs.Walks.{Line, line_in, place_at, spoke_of}
+use Rattle.graph_pages.specs.Graph.{GraphView, members_in, star_of}
+use Rattle.graph_pages.specs.Size.{listed_hubs, listed_spokes, sections_in, sections_of, spokes_of}
+use Rattle.graph_pages.specs.Walks.{Line, line_in}
 use Rattle.graph_pages.specs.declared.star.Pass.{Pass}
 use Rattle.graph_pages.specs.declared.star.Pass.TheVariants as pass
 use Rattle.graph_pages.specs.declared.star.Spoke.{Spoke}
 use Rattle.graph_pages.specs.declared.star.Star.{Star}
-use Rattle.room_words.proofs.Compared.{term_exact}
-use Rattle.room_words.specs.Terms.{same_term}
+use Rattle.room_words.proofs.Compared.{anchor_exact, term_exact}
+use Rattle.room_words.specs.Terms.{same_anchor}
 use Rattle.room_words.specs.declared.anchor.Anchor.{Anchor}
 use Rattle.room_words.specs.declared.term.Term.{Term}
 use Rattle.feeder_trace.specs.Hubs.{IsHub, same_hub}
@@ -34,19 +34,21 @@ use Rattle.feeder_trace.proofs.HubLemmas.{hub_exact, hub_laws}
 use Rattle.feeder_trace.proofs.NumberingLemmas.{entry_of, term_laws}
 use Rattle.feeder_trace.proofs.RowLemmas.{own_number}
 
--- a sum of more is more
-sum_by_weaker : {X : Type 0} (f h : X → ℕ) → ((x : X) → f x ≤ h x) → (xs : List X) → sum_by f xs ≤ sum_by h xs
-sum_by_weaker f h less [] = omega arith
-sum_by_weaker f h less (x ∷ xs) = omega (arith, sum_by-cons f x xs, sum_by-cons h x xs, less x, sum_by_weaker f h less xs)
-
 -- ---- terminals
 abbrev spoke_terms : Star → List Term
 spoke_terms star = map (λ (spoke : Spoke). spoke.term) star.spokes
 
-spokes_counted : (star : Star) → length (spoke_terms star) ≤ terms_of_star star
-spokes_counted star = omega (arith, length-map star.spokes (λ (spoke : Spoke). spoke.term))
+spokes_counted : (stars : List Star) → sum_by (λ star. length (spoke_terms star)) stars ≡ sum_by spokes_of stars
+spokes_counted [] = refl
+spokes_counted (star ∷ stars) = omega (
+  arith,
+  sum_by-cons (λ star. length (spoke_terms star)) star stars,
+  sum_by-cons spokes_of star stars,
+  length-map star.spokes (λ (spoke : Spoke). spoke.term),
+  spokes_counted stars,
+)
 
-pub numbering_within : (g : GraphView) (terminals : List (Term × PhaseSet)) → IsNumbering g terminals → length terminals ≤ listed_terms g
+pub numbering_within : (g : GraphView) (terminals : List (Term × PhaseSet)) → IsNumbering g terminals → length terminals ≤ listed_spokes g
 numbering_within g terminals numbering =
     let all = flat_map spoke_terms g.stars in
     let among : (t : Term) → Contains (keys_of terminals) t → Contains all t = λ t h.
@@ -59,110 +61,96 @@ numbering_within g terminals numbering =
       few,
       length-map terminals (λ (e : Term × PhaseSet). e.0),
       length-flat_map spoke_terms g.stars,
-      sum_by_weaker (λ (star : Star). length (spoke_terms star)) terms_of_star spokes_counted g.stars,
+      spokes_counted g.stars,
     )
 
 -- ---- places and sections
-abbrev place_hub : Option Anchor → List Hub
-place_hub None = []
-place_hub (Some place) = Place place ∷ []
+abbrev place_hubs : List (Anchor × List Term) → List Hub
+place_hubs places = map (λ (entry : Anchor × List Term). Place entry.0) places
 
-place_counted : (o : Option Anchor) → length (place_hub o) ≤ 1
-place_counted None = omega arith
-place_counted (Some place) = omega arith
+-- a place with members stands among the places
+module _ (place : Anchor) (members : List Term) where
+  place_at_first : (entry : Anchor × List Term) (places : List (Anchor × List Term)) (b : Bool) → same_anchor place entry.0 ≡ b → cond b (Some entry.1) (members_in places place) ≡ Some members
+      → (members_in places place ≡ Some members → Contains (place_hubs places) (Place place)) → Contains (place_hubs (entry ∷ places)) (Place place)
+  place_at_first entry places true is at rest =
+      subst (λ (p : Anchor). Contains (place_hubs (entry ∷ places)) (Place p)) (sym (anchor_exact place entry.0 is)) (contains_first (Place entry.0) (place_hubs places))
+  place_at_first entry places false is at rest = contains_rest (Place entry.0) (place_hubs places) (Place place) (rest at)
 
--- each section as often as it has terminals
+  place_listed : (places : List (Anchor × List Term)) → members_in places place ≡ Some members → Contains (place_hubs places) (Place place)
+  place_listed [] at = absurd (some_none members (sym at))
+  place_listed (entry ∷ places) at = place_at_first entry places (same_anchor place entry.0) refl at (place_listed places)
+
+-- the sections of a line by their indices, the first of which is n
 abbrev section_hubs : Id → ℕ → List (List Term) → List Hub
 section_hubs segment n [] = []
-section_hubs segment n (section ∷ sections) = map (λ (t : Term). Section segment n) section ++ section_hubs segment (n + 1) sections
+section_hubs segment n (section ∷ sections) = Section segment n ∷ section_hubs segment (n + 1) sections
 
-sections_counted : (segment : Id) (n : ℕ) (sections : List (List Term)) → length (section_hubs segment n sections) ≡ sum_by length sections
+sections_counted : (segment : Id) (n : ℕ) (sections : List (List Term)) → length (section_hubs segment n sections) ≡ length sections
 sections_counted segment n [] = refl
-sections_counted segment n (section ∷ sections) = omega (
-  arith,
-  length-append (map (λ (t : Term). Section segment n) section) (section_hubs segment (n + 1) sections),
-  length-map section (λ (t : Term). Section segment n),
-  sections_counted segment (n + 1) sections,
-  sum_by-cons length section sections,
-)
+sections_counted segment n (section ∷ sections) = ap suc (sections_counted segment (n + 1) sections)
 
-has_section : (segment : Id) (k n : ℕ) (sections : List (List Term)) (section : List Term) (t : Term) → slice_get sections n ≡ Some section → Contains section t → Contains (section_hubs segment k sections) (Section segment (k + n))
-has_section segment k n [] section t at has = cc
-has_section segment k zero (first ∷ sections) section t at has =
-    let here : Contains (map (λ (t : Term). Section segment k) first) (Section segment k) = contains_map (λ (t : Term). Section segment k) first t (subst (λ (ts : List Term). Contains ts t) (sym (same_Some first section at)) has) in
+has_section : (segment : Id) (k n : ℕ) (sections : List (List Term)) (section : List Term) → slice_get sections n ≡ Some section → Contains (section_hubs segment k sections) (Section segment (k + n))
+has_section segment k n [] section at = cc
+has_section segment k zero (first ∷ sections) section at =
     let e : k + 0 ≡ k = omega arith in
-    subst (λ n. Contains (section_hubs segment k (first ∷ sections)) (Section segment n)) (sym e) (Contains-append_left (map (λ (t : Term). Section segment k) first) (section_hubs segment (k + 1) sections) (Section segment k) here)
-has_section segment k (suc n) (first ∷ sections) section t at has =
+    subst (λ n. Contains (section_hubs segment k (first ∷ sections)) (Section segment n)) (sym e) (contains_first (Section segment k) (section_hubs segment (k + 1) sections))
+has_section segment k (suc n) (first ∷ sections) section at =
     let e : k + 1 + n ≡ k + suc n = omega arith in
     subst (λ n. Contains (section_hubs segment k (first ∷ sections)) (Section segment n)) e
-    (Contains-append_right (map (λ (t : Term). Section segment k) first) (section_hubs segment (k + 1) sections) (Section segment (k + 1 + n)) (has_section segment (k + 1) n sections section t at has))
+    (contains_rest (Section segment k) (section_hubs segment (k + 1) sections) (Section segment (k + 1 + n)) (has_section segment (k + 1) n sections section at))
 
 abbrev line_hubs : Id → Option Line → List Hub
 line_hubs segment None = []
 line_hubs segment (Some line) = section_hubs segment 0 line.sections
 
-line_counted : (segment : Id) (way : Pass) → length (line_hubs segment (line_in way)) ≡ terms_in_sections way
+line_counted : (segment : Id) (way : Pass) → length (line_hubs segment (line_in way)) ≡ sections_in way
 line_counted segment pass.Nothing = refl
 line_counted segment pass.Same = refl
 line_counted segment (pass.Switch is_open) = refl
 line_counted segment pass.Transformer = refl
 line_counted segment (pass.Line own sections) = sections_counted segment 0 sections
 
-abbrev spoke_hubs : Spoke → List Hub
-spoke_hubs spoke = place_hub spoke.at
-
 abbrev star_hubs : Star → List Hub
-star_hubs star = flat_map spoke_hubs star.spokes ++ line_hubs star.id (line_in star.pass)
+star_hubs star = line_hubs star.id (line_in star.pass)
 
-ones : {X : Type 0} (xs : List X) → sum_by (λ x. 1) xs ≡ length xs
-ones [] = refl
-ones (x ∷ xs) = omega (arith, sum_by-cons (λ x. 1) x xs, ones xs)
-
-star_counted : (star : Star) → length (star_hubs star) ≤ terms_of_star star
-star_counted star = omega (
+stars_counted : (stars : List Star) → sum_by (λ star. length (star_hubs star)) stars ≡ sum_by sections_of stars
+stars_counted [] = refl
+stars_counted (star ∷ stars) = omega (
   arith,
-  length-append (flat_map spoke_hubs star.spokes) (line_hubs star.id (line_in star.pass)),
-  length-flat_map spoke_hubs star.spokes,
-  sum_by_weaker (λ (spoke : Spoke). length (spoke_hubs spoke)) (λ spoke. 1) (λ spoke. place_counted spoke.at) star.spokes,
-  ones star.spokes,
+  sum_by-cons (λ star. length (star_hubs star)) star stars,
+  sum_by-cons sections_of star stars,
   line_counted star.id star.pass,
+  stars_counted stars,
 )
 
--- a place of a terminal is one of its owner's star
-module _ (g : GraphView) (t : Term) (place : Anchor) (at : place_at g t ≡ Some place) where
-  place_spoke : (star : Star) → star_of g t.owner.number ≡ Some star → (o : Option Spoke) → find (λ (spoke : Spoke). same_term spoke.term t) star.spokes ≡ o → spoke_of g t ≡ o → Contains (flat_map star_hubs g.stars) (Place place)
-  place_spoke star is None found spoke = absurd (some_none place (sym at ∙ ap (λ (o : Option Spoke). and_then o (λ (spoke : Spoke). spoke.at)) spoke))
-  place_spoke star is (Some spoke) found has =
-      let stands : spoke.at ≡ Some place = sym (ap (λ (o : Option Spoke). and_then o (λ (spoke : Spoke). spoke.at)) has) ∙ at in
-      let here : Contains (spoke_hubs spoke) (Place place) = subst (λ (o : Option Anchor). Contains (place_hub o) (Place place)) (sym stands) (contains_first (Place place) []) in
-      let spot = contains_flat_map spoke_hubs star.spokes spoke (Place place) (find_contains (λ (spoke : Spoke). same_term spoke.term t) star.spokes spoke found) here in
-      contains_flat_map star_hubs g.stars star (Place place) (find_contains (λ (star : Star). eqb star.id.number t.owner.number) g.stars star is)
-      (Contains-append_left (flat_map spoke_hubs star.spokes) (line_hubs star.id (line_in star.pass)) (Place place) spot)
-
-  place_star : (o : Option Star) → star_of g t.owner.number ≡ o → Contains (flat_map star_hubs g.stars) (Place place)
-  place_star None is = absurd (some_none place (sym at ∙ ap (λ (s : Option Star). and_then (and_then s (λ (star : Star). find (λ (spoke : Spoke). same_term spoke.term t) star.spokes)) (λ (spoke : Spoke). spoke.at)) is))
-  place_star (Some star) is =
-      place_spoke star is (find (λ (spoke : Spoke). same_term spoke.term t) star.spokes) refl
-      (ap (λ (o : Option Star). and_then o (λ (star : Star). find (λ (spoke : Spoke). same_term spoke.term t) star.spokes)) is)
-
--- and a section is one of its segment's star
-module _ (g : GraphView) (segment : Id) (line : Line) (n : ℕ) (section : List Term) (t : Term) (at : slice_get line.sections n ≡ Some section) (has : Contains section t) where
+-- a section is one of its segment's star
+module _ (g : GraphView) (segment : Id) (line : Line) (n : ℕ) (section : List Term) (at : slice_get line.sections n ≡ Some section) where
   section_star : (o : Option Star) → star_of g segment.number ≡ o → and_then o (λ (star : Star). line_in star.pass) ≡ Some line → Contains (flat_map star_hubs g.stars) (Section segment n)
   section_star None is found = cc
   section_star (Some star) is found =
       let own : star.id ≡ segment = same_id star.id segment (own_number g segment.number star is) in
       let e : 0 + n ≡ n = omega arith in
-      let there : Contains (section_hubs segment 0 line.sections) (Section segment n) = subst (λ m. Contains (section_hubs segment 0 line.sections) (Section segment m)) e (has_section segment 0 n line.sections section t at has) in
+      let there : Contains (section_hubs segment 0 line.sections) (Section segment n) = subst (λ m. Contains (section_hubs segment 0 line.sections) (Section segment m)) e (has_section segment 0 n line.sections section at) in
       let here : Contains (line_hubs segment (line_in star.pass)) (Section segment n) = subst (λ (o : Option Line). Contains (line_hubs segment o) (Section segment n)) (sym found) there in
       contains_flat_map star_hubs g.stars star (Section segment n) (find_contains (λ (star : Star). eqb star.id.number segment.number) g.stars star is)
-      (Contains-append_right (flat_map spoke_hubs star.spokes) (line_hubs star.id (line_in star.pass)) (Section segment n) (subst (λ (id : Id). Contains (line_hubs id (line_in star.pass)) (Section segment n)) (sym own) here))
+      (subst (λ (id : Id). Contains (line_hubs id (line_in star.pass)) (Section segment n)) (sym own) here)
 
-hub_of_star : (g : GraphView) (hub : Hub) → IsHub g hub → Contains (flat_map star_hubs g.stars) hub
-hub_of_star g (Place place) (t, at) = place_star g t place at (star_of g t.owner.number) refl
-hub_of_star g (Section segment n) (t, (line, found, section, at, has)) = section_star g segment line n section t at has (star_of g segment.number) refl found
+abbrev graph_hubs : GraphView → List Hub
+graph_hubs g = flat_map star_hubs g.stars ++ place_hubs g.places
 
-pub hubs_within : (g : GraphView) (hubs : List Hub) → IsDistinct same_hub hubs → ((hub : Hub) → Contains hubs hub → IsHub g hub) → length hubs ≤ listed_terms g
+hub_of_graph : (g : GraphView) (hub : Hub) → IsHub g hub → Contains (graph_hubs g) hub
+hub_of_graph g (Place place) (members, at) = Contains-append_right (flat_map star_hubs g.stars) (place_hubs g.places) (Place place) (place_listed place members g.places at)
+hub_of_graph g (Section segment n) (line, found, section, at) =
+    Contains-append_left (flat_map star_hubs g.stars) (place_hubs g.places) (Section segment n) (section_star g segment line n section at (star_of g segment.number) refl found)
+
+pub hubs_within : (g : GraphView) (hubs : List Hub) → IsDistinct same_hub hubs → ((hub : Hub) → Contains hubs hub → IsHub g hub) → length hubs ≤ listed_hubs g
 hubs_within g hubs once of_graph =
-    let all = flat_map star_hubs g.stars in
-    let few = length-le_from_is_member hub_laws hubs all once (λ q h. list_any-from_Contains hub_laws q all (hub_of_star g q (of_graph q (Contains-from_any hub_exact q hubs h)))) in
-    omega (arith, few, length-flat_map star_hubs g.stars, sum_by_weaker (λ (star : Star). length (star_hubs star)) terms_of_star star_counted g.stars)
+    let few = length-le_from_is_member hub_laws hubs (graph_hubs g) once (λ q h. list_any-from_Contains hub_laws q (graph_hubs g) (hub_of_graph g q (of_graph q (Contains-from_any hub_exact q hubs h)))) in
+    omega (
+      arith,
+      few,
+      length-append (flat_map star_hubs g.stars) (place_hubs g.places),
+      length-flat_map star_hubs g.stars,
+      stars_counted g.stars,
+      length-map g.places (λ (entry : Anchor × List Term). Place entry.0),
+    )

@@ -9,8 +9,8 @@ use Rattle.cim_words.specs.Phases.{has_phase}
 use Rattle.cim_words.specs.declared.phases.Phase.{Phase}
 use Rattle.cim_words.specs.declared.phases.PhaseSet.{PhaseSet}
 use Rattle.graph_pages.specs.Graph.{GraphView, members_of}
-use Rattle.graph_pages.specs.Size.{listed_terms}
-use Rattle.graph_pages.specs.Walks.{Line, line_of, place_at}
+use Rattle.graph_pages.specs.Size.{listed_hubs}
+use Rattle.graph_pages.specs.Walks.{Line, line_of}
 use Rattle.feeder_trace.specs.Visited.{IsSet}
 use Rattle.feeder_trace.specs.declared.hub.Hub.{Hub}
 use Rattle.feeder_trace.specs.declared.hub.Hub.TheVariants as hub
@@ -29,10 +29,10 @@ StandsIn g (hub.Place place) t = (members : List Term) × (members_of g place �
 StandsIn g (hub.Section segment n) t =
     (line : Line) × (line_of g segment.number ≡ Some line) × (section : List Term) × (slice_get line.sections n ≡ Some section) × Contains section t
 
--- one to which a trace can come: a place of a terminal, or a section with one
+-- one of the graph: a place that has members, or a section of a line
 abbrev pub IsHub : GraphView → Hub → Type 0
-IsHub g (hub.Place place) = (t : Term) × (place_at g t ≡ Some place)
-IsHub g (hub.Section segment n) = (t : Term) × StandsIn g (hub.Section segment n) t
+IsHub g (hub.Place place) = (members : List Term) × (members_of g place ≡ Some members)
+IsHub g (hub.Section segment n) = (line : Line) × (line_of g segment.number ≡ Some line) × (section : List Term) × (slice_get line.sections n ≡ Some section)
 
 -- a place or section has this number; it has a number and was visited in a phase
 abbrev pub HasNumber : HubsView → Hub → ℕ → Type 0
@@ -68,6 +68,6 @@ pub record AreMarked (hubs : Inside) : Type 0 where
   pub once : IsDistinct same_hub hubs.hubs.keys
   pub of_graph : (hub : Hub) → Contains hubs.hubs.keys hub → IsHub hubs.graph hub
   pub same_length : length hubs.visited.items ≡ length hubs.hubs.keys
-  pub enough : listed_terms hubs.graph ≤ hubs.most
+  pub enough : listed_hubs hubs.graph ≤ hubs.most
   pub places : hubs.most ≤ index_set_len hubs.hubs + spare hubs.hubs
   pub visited_room : hubs.most ≤ vec_capacity hubs.visited

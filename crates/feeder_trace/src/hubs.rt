@@ -40,7 +40,7 @@ impl Hubs {
     pub(crate) fn new(alloc: Global, graph: &Graph) -> Result<Hubs, NoMemory>
         ensures { IfOk result (λ hubs. hubs.graph ≡ graph.now) }
     {
-        let most = graph.terms();
+        let most = graph.hubs();
         Ok(Hubs {
             graph: graph.share()?,
             hubs: IndexSet::with_capacity(alloc, most)?,

@@ -45,7 +45,7 @@ impl Search {
     pub(crate) fn new(alloc: Global, graph: &Graph) -> Result<Search, NoMemory>
         ensures { IfOk result (λ search. search.graph ≡ graph.now) }
     {
-        let most = graph.terms();
+        let most = graph.spokes();
         Ok(Search {
             graph: graph.share()?,
             terminals: Terminals::new(alloc, most)?,

@@ -1,7 +1,8 @@
 //! Where current goes on from a terminal.
 
-ghost use Rattle.std.specs.Prelude.{◌≡◌, ◌↔◌, IsTrue, Some};
+ghost use Rattle.std.specs.Prelude.{◌≡◌, ◌↔◌, IsTrue, Some, Contains};
 ghost use Rattle.graph_pages.specs.Graph.{star_of};
+ghost use Rattle.feeder_trace.specs.Hubs.{IsHub, StandsIn};
 ghost use Rattle.feeder_trace.specs.Spread.{IsOver};
 ghost use Rattle.feeder_trace.specs.Search.{MarksAll};
 ghost use Rattle.feeder_trace.specs.Spread.{AlongLineOf, AmongMembers, AmongSpokes, AtPlaceOf, JoinedFrom, PassedFrom};
@@ -14,6 +15,9 @@ use crate::search::Search;
 use cim_words::PhaseSet;
 use graph_pages::{Graph, Pass, Spoke, Star, Term};
 use room_words::terms_are_compared;
+
+/// How many terminals are gone over faster than it is noted that they were.
+const FEW: usize = 4;
 
 /// Visited all to which current goes on from a terminal in some phases.
 pub(crate) fn spread(
@@ -55,14 +59,10 @@ fn at_place(
     let Some(place) = spoke.at else {
         return;
     };
-    let phases = hubs.visit(Hub::Place(place), phases);
-    if phases.is_empty() {
-        return;
-    }
     let Some(members) = graph.members(place) else {
         return;
     };
-    reach_members(search, members.as_slice(), phases);
+    over_hub(search, hubs, Hub::Place(place), members.as_slice(), phases);
 }
 
 /// Visited the terminals in the sections in which a terminal of a star stands on a line, in the line's phases.
@@ -88,12 +88,29 @@ fn along_line(
         if !section.as_slice().contains(&term) {
             continue;
         }
-        let left = hubs.visit(Hub::Section(line.segment, index), phases);
-        if left.is_empty() {
-            continue;
-        }
-        reach_members(search, section.as_slice(), left);
+        let hub = Hub::Section(line.segment, index);
+        over_hub(search, hubs, hub, section.as_slice(), phases);
     }
+}
+
+/// Visited the terminals of a place or section in some phases. A few are gone over whenever a trace comes to them, and more of them only
+/// in the phases in which they were not gone over before.
+fn over_hub(search: &mut Search, hubs: &mut Hubs, hub: Hub, terms: &[Term], phases: PhaseSet)
+    requires hub { IsHub hubs.old.graph hub }
+    requires terms { (t : Term) → StandsIn hubs.old.graph hub t ↔ Contains terms.now t }
+    requires over { IsOver hubs.old.graph hubs.old search.old }
+    ensures marked { MarksAll (AmongMembers terms.now phases) search.old search.new }
+    ensures over { IsOver hubs.old.graph hubs.new search.new }
+{
+    if terms.len() <= FEW {
+        reach_members(search, terms, phases);
+        return;
+    }
+    let left = hubs.visit(hub, phases);
+    if left.is_empty() {
+        return;
+    }
+    reach_members(search, terms, left);
 }
 
 /// Visited the terminals to which a star passes current from one of its own.

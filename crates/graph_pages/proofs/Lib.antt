@@ -3,4 +3,3 @@ pub mod Spread
 pub mod OneBucket
 pub mod Gathering
 pub mod Places
-pub mod Changes

@@ -1,7 +1,7 @@
 -- Members among the entries of places.
-use Rattle.std.proofs.Common.{◌≡◌, ℕ, ◌+◌, Bool, true, false, cond, List, [], ◌∷◌, Option, None, Some, refl, sym, ap, ◌∙◌, arith}
+use Rattle.std.proofs.Common.{◌≡◌, ℕ, Bool, true, false, cond, List, [], ◌∷◌, length, Option, None, Some, refl, sym, ap, ◌∙◌, arith}
 use Rattle.std.specs.List.{sum_by}
-use Rattle.std.specs.Map.{lookup, values_of}
+use Rattle.std.specs.Map.{lookup}
 use Rattle.std.specs.Option.{option_map}
 use Rattle.std.proofs.lemmas.List.Sums.{sum_by-cons}
 use Rattle.graph_pages.specs.Keyed.{item_at, size_in}
@@ -25,18 +25,6 @@ members_are {X} (e ∷ es) place =
     ∙ ap (cond (same_anchor e.0 place) (Some e.1)) (members_are es place)
     ∙ value_of (λ (entry : Anchor × X). entry.1) (same_anchor e.0 place) e (entry_at place es)
 
--- and so is how many they are
-pub count_is : {X : Type 0} (size : X → ℕ) (o : Option (Anchor × X)) → size_in (λ (entry : Anchor × X). size entry.1) o ≡ size_in size (option_map (λ (entry : Anchor × X). entry.1) o)
-count_is size None = refl
-count_is size (Some e) = refl
-
-pub counts_are : {X : Type 0} (size : X → ℕ) (entries : List (Anchor × X)) → sum_by (λ (entry : Anchor × X). size entry.1) entries ≡ sum_by size (values_of entries)
-counts_are size [] = refl
-counts_are {X} size (e ∷ es) =
-    sum_by-cons (λ (entry : Anchor × X). size entry.1) e es
-    ∙ ap (λ n. size e.1 + n) (counts_are size es)
-    ∙ sym (sum_by-cons size e.1 (values_of es))
-
 -- places whose entries are found as before have the members that they had
 pub members_same : {X : Type 0} (new old : List (Anchor × X)) → ((k : Anchor) → entry_at k new ≡ entry_at k old) → (k : Anchor) → lookup (same_anchor k) new ≡ lookup (same_anchor k) old
 members_same {X} new old found k =
@@ -55,20 +43,11 @@ members_change {X} new old place change found k =
     ∙ change_of (λ (entry : Anchor × X). entry.1) (same_anchor place k) change (entry_at k old)
     ∙ ap (cond (same_anchor place k) (option_map (λ (entry : Anchor × X). entry.1) change)) (sym (members_are old k))
 
--- the sizes of all members, after those at a place gave way to some of a size
-pub members_sizes : {X : Type 0} (size : X → ℕ) (new old : List (Anchor × X)) (place : Anchor) (come : ℕ)
-    → sum_by (λ (entry : Anchor × X). size entry.1) new + size_in (λ (entry : Anchor × X). size entry.1) (entry_at place old) ≡ sum_by (λ (entry : Anchor × X). size entry.1) old + come
-    → sum_by size (values_of new) + size_in size (lookup (same_anchor place) old) ≡ sum_by size (values_of old) + come
-members_sizes {X} size new old place come sizes =
-    let after = counts_are size new in
-    let before = counts_are size old in
-    let gone : size_in (λ (entry : Anchor × X). size entry.1) (entry_at place old) ≡ size_in size (lookup (same_anchor place) old) =
-    count_is size (entry_at place old) ∙ ap (size_in size) (sym (members_are old place)) in
-    omega arith
+-- each counts for one place, and for no spoke
+pub ones : {X : Type 0} (xs : List X) → sum_by (λ x. 1) xs ≡ length xs
+ones [] = refl
+ones (x ∷ xs) = omega (arith, sum_by-cons (λ x. 1) x xs, ones xs)
 
-pub members_gone : {X : Type 0} (size : X → ℕ) (new old : List (Anchor × X)) (place : Anchor)
-    → sum_by (λ (entry : Anchor × X). size entry.1) new + size_in (λ (entry : Anchor × X). size entry.1) (entry_at place old) ≡ sum_by (λ (entry : Anchor × X). size entry.1) old
-    → sum_by size (values_of new) + size_in size (lookup (same_anchor place) old) ≡ sum_by size (values_of old)
-members_gone {X} size new old place sizes =
-    let moved = members_sizes size new old place 0 (omega arith) in
-    omega arith
+pub none_in : {X : Type 0} (o : Option X) → size_in (λ x. 0) o ≡ 0
+none_in None = refl
+none_in (Some x) = refl

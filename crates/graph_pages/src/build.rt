@@ -8,11 +8,11 @@ ghost use Rattle.graph_pages.specs.declared.star.Star.{Star};
 ghost use Rattle.room_words.specs.Terms.{same_anchor};
 ghost use Rattle.room_words.specs.declared.anchor.Anchor.{Anchor};
 
+use crate::counts::Counts;
 use crate::graph::Graph;
 use crate::maps::Maps;
 use crate::paged_map::PagedMap;
 use crate::star::Star;
-use crate::terms::{plus, terms_at_places, terms_of_stars};
 use cim_words::NoMemory;
 use room_words::{Anchor, Members};
 use std::alloc::Global;
@@ -21,7 +21,7 @@ use step_count::Steps;
 
 impl Graph {
     /// The graph of these stars and places, one tick for each. They are of different identifiers and anchors.
-    /// It is want of memory too where the terminals that they list are no number of items.
+    /// It is want of memory too where what they list is no number of items.
     pub fn build<L: Ledger>(
         alloc: Global,
         stars: Vec<Star>,
@@ -37,11 +37,11 @@ impl Graph {
     {
         let stars = PagedMap::build(alloc, stars, steps)?;
         let places = PagedMap::build(alloc, places, steps)?;
-        let terms = plus(terms_of_stars(&stars)?, terms_at_places(&places)?)?;
+        let counts = stars.counts()?.changed(Counts::NONE, places.counts()?)?;
         let maps = Maps {
             stars,
             places,
-            terms,
+            counts,
         };
         Ok(Graph { maps })
     }

@@ -1,16 +1,14 @@
 //! Changing a graph entry by entry.
 
-ghost use Rattle.std.specs.Prelude.{◌≡◌, ◌==◌, ◌≤◌, ◌+◌, ℕ, Some, None, cond, length, OnOk, OnErr, IfOk};
+ghost use Rattle.std.specs.Prelude.{◌≡◌, ◌==◌, ◌≤◌, ◌+◌, ℕ, Some, None, cond, OnOk, OnErr};
 ghost use Rattle.graph_pages.specs.Graph.{members_of, star_of};
-ghost use Rattle.graph_pages.specs.Keyed.{size_in};
-ghost use Rattle.graph_pages.specs.Size.{terms_of_star};
 ghost use Rattle.room_words.specs.Terms.{same_anchor};
 ghost use Rattle.room_words.specs.declared.anchor.Anchor.{Anchor};
 
+use crate::counts::Counts;
 use crate::graph::Graph;
 use crate::maps::Maps;
 use crate::star::Star;
-use crate::terms::{plus, terms_of};
 use cim_words::{Id, NoMemory};
 use room_words::{Anchor, Members};
 use std::marker::Model;
@@ -18,7 +16,7 @@ use std::sync::ledger::Ledger;
 use step_count::Steps;
 
 /// The two maps of a graph, which change entry by entry. Each change takes one tick, however large the graph is. It is want of memory
-/// too where the terminals that the entries would list are no number of items. A change that is refused changes nothing.
+/// too where what the entries would list is no number of items. A change that is refused changes nothing.
 #[derive(Drop)]
 pub struct GraphEdit {
     pub(crate) maps: Maps,
@@ -41,11 +39,10 @@ impl GraphEdit {
         ensures ticks { OnOk result (steps.new ≡ steps.old + 1) }
         ensures bound { steps.new ≤ steps.old + 1 }
     {
-        let gone = self.terms_of_star(star.id)?;
-        let kept = self.maps.terms.saturating_sub(gone);
-        let terms = plus(kept, terms_of(&star)?)?;
+        let gone = self.maps.stars.counts_at(star.id.number);
+        let counts = self.maps.counts.changed(gone, Counts::of_star(&star))?;
         self.maps.stars.put(star, steps)?;
-        self.maps.terms = terms;
+        self.maps.counts = counts;
         Ok(())
     }
 
@@ -62,11 +59,10 @@ impl GraphEdit {
         ensures ticks { OnOk result (steps.new ≡ steps.old + 1) }
         ensures bound { steps.new ≤ steps.old + 1 }
     {
-        let gone = self.terms_at(place);
-        let kept = self.maps.terms.saturating_sub(gone);
-        let terms = plus(kept, members.len())?;
+        let gone = self.maps.places.counts_at(place);
+        let counts = self.maps.counts.changed(gone, Counts::PLACE)?;
         self.maps.places.put((place, members), steps)?;
-        self.maps.terms = terms;
+        self.maps.counts = counts;
         Ok(())
     }
 
@@ -78,9 +74,10 @@ impl GraphEdit {
         ensures ticks { OnOk result (steps.new ≡ steps.old + 1) }
         ensures bound { steps.new ≤ steps.old + 1 }
     {
-        let gone = self.terms_of_star(id)?;
+        let gone = self.maps.stars.counts_at(id.number);
+        let counts = self.maps.counts.changed(gone, Counts::NONE)?;
         self.maps.stars.remove(id.number, steps)?;
-        self.maps.terms = self.maps.terms.saturating_sub(gone);
+        self.maps.counts = counts;
         Ok(())
     }
 
@@ -96,9 +93,10 @@ impl GraphEdit {
         ensures ticks { OnOk result (steps.new ≡ steps.old + 1) }
         ensures bound { steps.new ≤ steps.old + 1 }
     {
-        let gone = self.terms_at(place);
+        let gone = self.maps.places.counts_at(place);
+        let counts = self.maps.counts.changed(gone, Counts::NONE)?;
         self.maps.places.remove(place, steps)?;
-        self.maps.terms = self.maps.terms.saturating_sub(gone);
+        self.maps.counts = counts;
         Ok(())
     }
 
@@ -107,25 +105,5 @@ impl GraphEdit {
         ensures { result ≡ self }
     {
         Graph { maps: self.maps }
-    }
-
-    /// How many terminals the star of an identifier lists, if there is one.
-    fn terms_of_star(&self, id: Id) -> Result<usize, NoMemory>
-        ensures { IfOk result (λ count. count ≡ size_in terms_of_star (star_of self.now id.number)) }
-    {
-        match self.maps.star(id) {
-            Some(star) => terms_of(star),
-            None => Ok(0),
-        }
-    }
-
-    /// How many terminals stand at a place.
-    fn terms_at(&self, place: Anchor) -> usize
-        ensures { result ≡ size_in length (members_of self.now place) }
-    {
-        match self.maps.members(place) {
-            Some(members) => members.len(),
-            None => 0,
-        }
     }
 }

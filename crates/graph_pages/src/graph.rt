@@ -4,7 +4,7 @@ ghost use Rattle.std.specs.Prelude.{◌≡◌, ◌≤◌, ℕ, IfOk, map, nat_eq
 ghost use Rattle.std.specs.Iterator.{YieldsFirstRef, item_count};
 ghost use Rattle.std.specs.List.{IsDistinct};
 ghost use Rattle.graph_pages.specs.Graph.{members_of, star_in, star_of};
-ghost use Rattle.graph_pages.specs.Size.{listed_terms};
+ghost use Rattle.graph_pages.specs.Size.{listed_hubs, listed_spokes};
 ghost use Rattle.graph_pages.specs.declared.star.Star.{Star};
 
 use crate::edit::GraphEdit;
@@ -55,11 +55,18 @@ impl Graph {
         }
     }
 
-    /// A number of terminals: at least as many as the entries list, each counted as often as it is listed.
-    pub fn terms(&self) -> usize
-        ensures { listed_terms self.now ≤ result }
+    /// A number of terminals: at least as many as the stars list.
+    pub fn spokes(&self) -> usize
+        ensures { listed_spokes self.now ≤ result }
     {
-        self.maps.terms()
+        self.maps.counts().spokes
+    }
+
+    /// A number of places and sections: at least as many as there are.
+    pub fn hubs(&self) -> usize
+        ensures { listed_hubs self.now ≤ result }
+    {
+        self.maps.counts().hubs
     }
 
     /// The same graph once more.

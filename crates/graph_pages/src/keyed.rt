@@ -1,7 +1,8 @@
-//! What stands in a map under a key of its own.
+//! What stands in a map under a key of its own, and what it counts for.
 
 ghost use Rattle.std.specs.Prelude.{◌≡◌};
 
+use crate::counts::Counts;
 use crate::fold::{fold_of_anchor, fold_of_number};
 use crate::star::Star;
 use room_words::{Anchor, Members, places_are_compared};
@@ -22,6 +23,11 @@ pub(crate) trait Keyed: Drop {
     /// The number by which a key is spread.
     ghost fold_of: { Self.Key → ℕ };
 
+    /// How many spokes it lists, and how many places or sections it is.
+    ghost spokes: { Self → ℕ };
+
+    ghost hubs: { Self → ℕ };
+
     /// Its key.
     fn key(&self) -> Self::Key
         ensures { result ≡ key_of self.now };
@@ -33,6 +39,11 @@ pub(crate) trait Keyed: Drop {
     /// The number by which a key is spread.
     fn fold(key: Self::Key) -> u64
         ensures { result ≡ fold_of key };
+
+    /// What it counts for.
+    fn counts(&self) -> Counts
+        ensures spokes { result.spokes ≡ spokes self.now }
+        ensures hubs { result.hubs ≡ hubs self.now };
 
     /// A key is itself.
     ghost itself: { (k : Self.Key) → same_key k k ≡ true };
@@ -46,6 +57,7 @@ impl Keyed for Star {
     ghost use Rattle.std.specs.Prelude.{nat_eq, refl};
     ghost use Rattle.std.proofs.lemmas.Bool.{eqb-true, eq-eqb};
     ghost use Rattle.graph_pages.specs.Fold.{fold_of_number};
+    ghost use Rattle.graph_pages.specs.Size.{sections_of, spokes_of};
 
     type Key = u128;
 
@@ -54,6 +66,10 @@ impl Keyed for Star {
     ghost same_key = { nat_eq };
 
     ghost fold_of = { fold_of_number };
+
+    ghost spokes = { spokes_of };
+
+    ghost hubs = { sections_of };
 
     ghost itself = { λ k. eq-eqb k k refl };
 
@@ -69,6 +85,10 @@ impl Keyed for Star {
 
     fn fold(key: u128) -> u64 {
         fold_of_number(key)
+    }
+
+    fn counts(&self) -> Counts {
+        Counts::of_star(self)
     }
 }
 
@@ -86,6 +106,10 @@ impl Keyed for (Anchor, Members) {
 
     ghost fold_of = { fold_of_anchor };
 
+    ghost spokes = { λ entry. 0 };
+
+    ghost hubs = { λ entry. 1 };
+
     ghost itself = { anchor_itself };
 
     ghost exact = { anchor_exact };
@@ -101,5 +125,9 @@ impl Keyed for (Anchor, Members) {
 
     fn fold(key: Anchor) -> u64 {
         fold_of_anchor(key)
+    }
+
+    fn counts(&self) -> Counts {
+        Counts::PLACE
     }
 }

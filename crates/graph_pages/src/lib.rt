@@ -3,6 +3,7 @@
 
 mod bucket;
 mod build;
+mod counts;
 mod edit;
 mod entries;
 mod fold;
@@ -12,7 +13,6 @@ mod keyed;
 mod maps;
 mod paged_map;
 mod star;
-mod terms;
 
 pub use cim_words::NoMemory;
 pub use edit::GraphEdit;

@@ -2,8 +2,9 @@
 
 ghost use Rattle.std.specs.Prelude.{◌≡◌, ◌≤◌, option_copied};
 ghost use Rattle.graph_pages.specs.Graph.{members_of, star_of};
-ghost use Rattle.graph_pages.specs.Size.{listed_terms};
+ghost use Rattle.graph_pages.specs.Size.{listed_hubs, listed_spokes};
 
+use crate::counts::Counts;
 use crate::paged_map::PagedMap;
 use crate::star::Star;
 use cim_words::{Id, NoMemory};
@@ -11,24 +12,24 @@ use room_words::{Anchor, Members};
 use shared_parts::Share;
 use std::marker::Model;
 
-/// The two maps, and a number of terminals: at least as many as their entries list.
+/// The two maps, and counts that are enough for what their entries list.
 #[derive(Drop)]
 pub(crate) struct Maps {
     pub(crate) stars: PagedMap<Star>,
     pub(crate) places: PagedMap<(Anchor, Members)>,
-    pub(crate) terms: usize,
+    pub(crate) counts: Counts,
 }
 
 impl Model for Maps {
     ghost use Rattle.std.specs.Prelude.{◌≤◌};
     ghost use Rattle.graph_pages.specs.Graph.{GraphView};
-    ghost use Rattle.graph_pages.specs.Size.{listed_terms};
+    ghost use Rattle.graph_pages.specs.Size.{listed_hubs, listed_spokes};
 
     ghost Value = { GraphView };
 
     ghost view = { λ maps. record { stars = maps.stars; places = maps.places } };
 
-    ghost invariant = { λ maps. listed_terms (record { stars = maps.stars; places = maps.places }) ≤ maps.terms };
+    ghost invariant = { λ maps. (listed_spokes (record { stars = maps.stars; places = maps.places }) ≤ maps.counts.spokes) × (listed_hubs (record { stars = maps.stars; places = maps.places }) ≤ maps.counts.hubs) };
 }
 
 impl Maps {
@@ -50,11 +51,12 @@ impl Maps {
         }
     }
 
-    /// A number of terminals: at least as many as the entries list.
-    pub(crate) fn terms(&self) -> usize
-        ensures { listed_terms self.now ≤ result }
+    /// Counts that are enough for what the entries list.
+    pub(crate) fn counts(&self) -> Counts
+        ensures spokes { listed_spokes self.now ≤ result.spokes }
+        ensures hubs { listed_hubs self.now ≤ result.hubs }
     {
-        self.terms
+        self.counts
     }
 }
 
@@ -63,7 +65,7 @@ impl Share for Maps {
         Ok(Maps {
             stars: self.stars.share()?,
             places: self.places.share()?,
-            terms: self.terms,
+            counts: self.counts,
         })
     }
 }
