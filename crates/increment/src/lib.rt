@@ -3,6 +3,8 @@
 
 mod after;
 mod laws;
+mod putting;
+mod touched;
 
 pub use after::after_act;
 pub use laws::acts_touch_few_entries;
