@@ -1,9 +1,8 @@
 -- What is put into a map key by key, and a graph whose touched entries are put.
-use Rattle.std.proofs.Common.{◌≡◌, ◌↔◌, ℕ, ◌⊎◌, inl, inr, List, [], ◌∷◌, ◌++◌, Bool, true, false, ◌==◌, cond, IsTrue, Option, Some, None, Contains, Result, Ok, Err, OnOk, refl, ap, sym, ◌∙◌, subst}
+use Rattle.std.proofs.Common.{◌≡◌, ◌↔◌, ℕ, ◌⊎◌, inl, inr, List, [], ◌∷◌, ◌++◌, Bool, true, false, ◌==◌, cond, IsTrue, Option, Contains, refl, sym, ◌∙◌, subst}
 use Rattle.std.proofs.lemmas.Bool.{eq-eqb, eqb-true}
 use Rattle.std.proofs.lemmas.List.Elements.{Contains-append_left, Contains-append_right, Contains-push_cases}
 use Rattle.plain_laws.proofs.Members.{contains_cases, contains_first, contains_nothing, contains_rest}
-use Rattle.cim_words.specs.declared.identifier.Id.{Id}
 use Rattle.cim_words.specs.declared.statement.Statement.{Statement}
 use Rattle.graph_pages.specs.Graph.{GraphView, members_of, star_of}
 use Rattle.graph_pages.specs.declared.star.Star.{Star}
@@ -37,9 +36,6 @@ listed_or_not same told (k ∷ keys) key = elim (same_or_not same told k key (sa
 
 -- ---- one key more
 
-pub none_put : {K V : Type 0} (R : K → V → Type 0) (now : K → V) → ArePut R [] now now
-none_put R now = record { right = λ key there. contains_nothing key there; others = λ key absent. refl }
-
 chosen : {V : Type 0} (b : Bool) (value other : V) → b ≡ true → cond b value other ≡ value
 chosen true value other is = refl
 chosen false value other is = absurd cc
@@ -55,10 +51,10 @@ pub one_put : {K V : Type 0} (R : K → V → Type 0) (same : K → K → Bool) 
     → AreTold same → R key value → ((k : K) → now k ≡ cond (same key k) value (before k)) → ArePut R (key ∷ []) before now
 one_put R same key value before now told is puts = record {
   right = λ k there.
-    let here : key ≡ k = only key k there in
-    subst (λ (k : _). R k (now k)) here (subst (R key) (sym (puts key ∙ chosen (same key key) value (before key) ((told key key).1 refl))) is);
+      let here : key ≡ k = only key k there in
+      subst (λ (k : _). R k (now k)) here (subst (R key) (sym (puts key ∙ chosen (same key key) value (before key) ((told key key).1 refl))) is);
   others = λ k absent.
-    puts k ∙ passed (same key k) value (before k) (λ yes. absent (subst (Contains (key ∷ [])) ((told key k).0 yes) (contains_first key [])));
+      puts k ∙ passed (same key k) value (before k) (λ yes. absent (subst (Contains (key ∷ [])) ((told key k).0 yes) (contains_first key [])));
 }
 
 pub more_put : {K V : Type 0} (R : K → V → Type 0) (same : K → K → Bool) (keys : List K) (key : K) (a b c : K → V)
@@ -72,7 +68,7 @@ more_put R same keys key a b c told before last = record {
     ])
   ];
   others = λ k absent.
-    last.others k (λ there. absent (Contains-append_right keys (key ∷ []) k there)) ∙ before.others k (λ there. absent (Contains-append_left keys (key ∷ []) k there));
+      last.others k (λ there. absent (Contains-append_right keys (key ∷ []) k there)) ∙ before.others k (λ there. absent (Contains-append_left keys (key ∷ []) k there));
 }
 
 -- what was right by another rule, and by this one at all other keys, is right by this one at all keys
@@ -83,24 +79,7 @@ all_right Was IsRight same keys before now told was stays put k = elim (listed_o
   | inr absent ↦ subst (IsRight k) (sym (put.others k absent)) (stays k absent (before k) (was k))
 ]
 
--- ---- the star of an identifier, and the members of a place
-
-pub star_put : (m : List Statement) (o : Overlay) (x : ℕ) (star : Star) (before now : GraphView) → IsStarAt m o x (Some star)
-    → ((y : ℕ) → star_of now y ≡ cond (star.id.number == y) (Some star) (star_of before y)) → ((place : Anchor) → members_of now place ≡ members_of before place)
-    → HasStarsPut m o (x ∷ []) before now
-star_put m o x star before now is puts places = record {
-  stars = one_put (IsStarAt m o) ◌==◌ x (Some star) (star_of before) (star_of now) numbers_told is
-    (λ y. puts y ∙ ap (λ (id : Id). cond (id.number == y) (Some star) (star_of before y)) is.1.id);
-  places = places;
-}
-
-pub star_dropped : (m : List Statement) (o : Overlay) (x : ℕ) (before now : GraphView) → IsStarAt m o x None
-    → ((y : ℕ) → star_of now y ≡ cond (x == y) None (star_of before y)) → ((place : Anchor) → members_of now place ≡ members_of before place)
-    → HasStarsPut m o (x ∷ []) before now
-star_dropped m o x before now is drops places = record {
-  stars = one_put (IsStarAt m o) ◌==◌ x None (star_of before) (star_of now) numbers_told is drops;
-  places = places;
-}
+-- ---- entry after entry
 
 pub members_put : (m : List Statement) (o : Overlay) (place : Anchor) (members : Option (List Term)) (before now : GraphView) → AreTold same_anchor → IsEntry m o place members
     → ((other : Anchor) → members_of now other ≡ cond (same_anchor place other) members (members_of before other)) → ((x : ℕ) → star_of now x ≡ star_of before x)
@@ -110,19 +89,11 @@ members_put m o place members before now told is puts stars = record {
   stars = stars;
 }
 
--- ---- entry after entry
-
-pub no_star_put : (m : List Statement) (o : Overlay) (g : GraphView) → HasStarsPut m o [] g g
-no_star_put m o g = record { stars = none_put (IsStarAt m o) (star_of g); places = λ place. refl }
-
 pub next_star_put : (m : List Statement) (o : Overlay) (xs : List ℕ) (x : ℕ) (a b c : GraphView) → HasStarsPut m o xs a b → HasStarsPut m o (x ∷ []) b c → HasStarsPut m o (xs ++ x ∷ []) a c
 next_star_put m o xs x a b c before last = record {
   stars = more_put (IsStarAt m o) ◌==◌ xs x (star_of a) (star_of b) (star_of c) numbers_told before.stars last.stars;
   places = λ place. last.places place ∙ before.places place;
 }
-
-pub no_members_put : (m : List Statement) (o : Overlay) (g : GraphView) → HasMembersPut m o [] g g
-no_members_put m o g = record { places = none_put (IsEntry m o) (members_of g); stars = λ x. refl }
 
 pub next_members_put : (m : List Statement) (o : Overlay) (places : List Anchor) (place : Anchor) (a b c : GraphView) → AreTold same_anchor
     → HasMembersPut m o places a b → HasMembersPut m o (place ∷ []) b c → HasMembersPut m o (places ++ place ∷ []) a c
@@ -140,14 +111,8 @@ pub all_put : (m : List Statement) (o p : Overlay) (xs : List ℕ) (places : Lis
     → HasStarsPut m p xs a b → HasMembersPut m p places b c → IsMap m p c
 all_put m o p xs places a b c told was stars_stay places_stay stars members = record {
   stars = λ x. subst (IsStarAt m p x) (sym (members.stars x))
-    (all_right (IsStarAt m o) (IsStarAt m p) ◌==◌ xs (star_of a) (star_of b) numbers_told was.stars stars_stay stars.stars x);
+      (all_right (IsStarAt m o) (IsStarAt m p) ◌==◌ xs (star_of a) (star_of b) numbers_told was.stars stars_stay stars.stars x);
   places =
-    all_right (IsEntry m o) (IsEntry m p) same_anchor places (members_of b) (members_of c) told
-    (λ place. subst (IsEntry m o place) (sym (stars.places place)) (was.places place)) places_stay members.places;
+      all_right (IsEntry m o) (IsEntry m p) same_anchor places (members_of b) (members_of c) told
+      (λ place. subst (IsEntry m o place) (sym (stars.places place)) (was.places place)) places_stay members.places;
 }
-
--- ---- of an answer with two facts
-
-pub on_ok_both : {T E P Q R : Type 0} (r : Result T E) → (P → Q → R) → OnOk r P → OnOk r Q → OnOk r R
-on_ok_both (Ok x) both p q = both p q
-on_ok_both (Err e) both p q = tt

@@ -9,11 +9,7 @@ use room_words::{Act, Anchor, Overlay, TempItem};
 use std::alloc::Global;
 
 /// The stars that an act changes, by identifier.
-pub(crate) fn touched_stars(
-    alloc: Global,
-    old: &Overlay,
-    act: &Act,
-) -> Result<Vec<Id>, NoMemory>
+pub(crate) fn touched_stars(alloc: Global, old: &Overlay, act: &Act) -> Result<Vec<Id>, NoMemory>
     ensures { IfOk result (λ ids. map number_of_id ids.items ≡ touched_stars old.now act.now) }
 {
     match *act {

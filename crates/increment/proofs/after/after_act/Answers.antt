@@ -16,9 +16,9 @@ returns-clause-map g c =
     let act = c.args.act.now in
     let law = c.acts_touch_few_entries.ensures in
     let stars = subst (λ (xs : List ℕ). HasStarsPut m new xs c.in_ok-edit.edit c.put_stars.new.edit)
-        (ap (map number_of_id) c.deref.ensures.value ∙ c.in_ok-stars.ensures) c.in_ok-put_stars.ensures.put in
+    (ap (map number_of_id) c.deref.ensures.value ∙ c.in_ok-stars.ensures) c.in_ok-put_stars.ensures.put in
     let places = subst (λ (at : List Anchor). HasMembersPut m new at c.put_stars.new.edit c.put_places.new.edit)
-        (c.deref-2.ensures.value ∙ c.in_ok-places.ensures) c.in_ok-put_places.ensures.put in
+    (c.deref-2.ensures.value ∙ c.in_ok-places.ensures) c.in_ok-put_places.ensures.put in
     subst (IsMap m new) (sym c.done.ensures)
     (all_put m old new (touched_stars old act) (touched_places old act) c.in_ok-edit.edit c.put_stars.new.edit c.put_places.new.edit
     c.places_are_compared.ensures.equal (subst (IsMap m old) (sym c.in_ok-edit.ensures) c.requires.map)

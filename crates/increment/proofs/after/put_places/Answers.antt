@@ -1,4 +1,4 @@
-use Rattle.std.proofs.Common.{◌+◌, List, take, sym, subst, arith}
+use Rattle.std.proofs.Common.{List, take, sym, subst, arith}
 use Rattle.std.proofs.lemmas.List.{take_more}
 use Rattle.room_words.specs.declared.anchor.Anchor.{Anchor}
 use Rattle.increment.specs.Edits.{HasMembersPut}

@@ -1,4 +1,4 @@
-use Rattle.std.proofs.Common.{◌+◌, List, ℕ, get_or, map, take, sym, subst, arith}
+use Rattle.std.proofs.Common.{List, ℕ, get_or, map, take, sym, subst, arith}
 use Rattle.std.proofs.lemmas.List.{map_more}
 use Rattle.cim_model.specs.Values.{as_id, number_of_id}
 use Rattle.increment.specs.Edits.{HasStarsPut}
