@@ -1,5 +1,6 @@
 pub mod Acts
 pub mod Changed
+pub mod Edits
 pub mod Few
 pub mod ItemParts
 pub mod Kept
