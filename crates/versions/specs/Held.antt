@@ -6,6 +6,7 @@ use Rattle.desk.specs.Legal.{IsLegal}
 use Rattle.link_rules.specs.Map.{IsMap}
 use Rattle.versions.specs.History.{IsNow, Judges, Network, log_bytes, most_entries, most_log_bytes}
 use Rattle.versions.specs.Past.{Past}
+use Rattle.versions.specs.Serials.{AreCounts}
 use Rattle.versions.specs.declared.held.Held.{Held}
 
 -- the base and the log
@@ -17,7 +18,7 @@ abbrev pub now_in : Held → Network
 now_in held = record { model = held.index; overlay = held.overlay }
 
 -- The base breaks no rule and the log is legal from it; the index is that of the model which the log makes of the base, the overlay is the
--- one that it leaves and stands, the graph is theirs, and the bytes are those of the log's differences.
+-- one that it leaves and stands, the graph is theirs, the counts are those of the log, and the bytes are those of its differences.
 pub record Agrees (held : Held) : Type 0 where
   pub base_faultless : IsFaultless held.base
   pub legal : IsLegal (Judges held.base) held.log
@@ -25,6 +26,7 @@ pub record Agrees (held : Held) : Type 0 where
   pub faultless : IsFaultless held.index
   pub stands : Stands held.index held.overlay
   pub map : IsMap held.index held.overlay held.graph
+  pub counts : AreCounts held.counts.of held.log
   pub bytes : held.bytes ≡ log_bytes held.log
   pub few : length held.log ≤ most_entries
   pub short : held.bytes ≤ most_log_bytes

@@ -1,5 +1,5 @@
 -- What a history makes of a base, and how an event is judged after it, of this project.
-use Rattle.std.specs.Prelude.{ℕ, ◌+◌, ◌*◌, ◌≡◌, ◌<◌, ◌≤◌, ◌⊎◌, List, [], ◌∷◌, length, sum_by, Option, Some, None}
+use Rattle.std.specs.Prelude.{ℕ, ◌+◌, ◌≡◌, ◌<◌, ◌≤◌, ◌⊎◌, List, [], ◌∷◌, length, sum_by, Option, Some, None}
 use Rattle.cim_model.specs.Effects.{effect}
 use Rattle.cim_model.specs.Refusals.{refusal_of}
 use Rattle.cim_words.specs.declared.statement.Statement.{Statement}
@@ -10,7 +10,6 @@ use Rattle.room_words.specs.declared.event.Entry.{Entry}
 use Rattle.room_words.specs.declared.event.Event.{Event}
 use Rattle.room_words.specs.declared.event.Event.TheVariants as event
 use Rattle.room_words.specs.declared.overlay.Overlay.{Overlay}
-use Rattle.room_words.specs.declared.refused.LogFull.{LogFull}
 use Rattle.room_words.specs.declared.refused.Why.{Why}
 use Rattle.room_words.specs.declared.refused.Why.TheVariants as why
 
@@ -51,10 +50,11 @@ abbrev pub event_bytes : Event → ℕ
 event_bytes (event.Act act) = 0
 event_bytes (event.Cutover d) = length (written_difference d)
 
--- how many records of the graph an event may change: an act six, and a difference eight for each of its reverse and forward statements
-abbrev pub event_ticks : Event → ℕ
-event_ticks (event.Act act) = 6
-event_ticks (event.Cutover d) = 8 * (length d.rev + length d.fwd)
+-- How many records of the graph an event changes at most: an act changes six. A cutover makes the graph anew, and for it no number is
+-- stated.
+abbrev pub event_ticks : Event → Option ℕ
+event_ticks (event.Act act) = Some 6
+event_ticks (event.Cutover d) = None
 
 abbrev pub entry_bytes : Entry → ℕ
 entry_bytes entry = event_bytes entry.event

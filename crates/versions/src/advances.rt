@@ -1,4 +1,4 @@
-//! What an event makes of a version.
+//! Events on what a version holds.
 
 ghost use Rattle.std.specs.Prelude.{◌≡◌, ◌<◌, ◌^◌, ◌++◌, ◌∷◌, [], length, Err, IfOk};
 ghost use Rattle.cim_model.specs.Profile.{IsFaultless};
@@ -9,43 +9,23 @@ ghost use Rattle.room_words.specs.declared.refused.Denied.TheVariants as denied;
 ghost use Rattle.room_words.specs.declared.refused.Refused.{Refused};
 ghost use Rattle.versions.specs.Held.{Agrees, now_in};
 ghost use Rattle.versions.specs.History.{Judges, Refuses, Takes};
+ghost use Rattle.versions.specs.Moved.{IsMoved};
 
 use crate::held::Held;
 use crate::limits::bytes_of;
+use crate::moved::Moved;
 use act_laws::accepted_acts_stand;
 use cim_records::Index;
 use cim_words::NoMemory;
 use cutover::{DiffDenied, accepted_differences_stand, judge_difference};
-use room_words::{Act, Denied, Difference, Entry, Event, Overlay, Refused, Why};
+use room_words::{Act, Denied, Difference, Entry, Overlay, Refused, Why};
 use shared_parts::Share;
 use std::alloc::Global;
-use std::sync::ledger::Ledger;
-use step_count::Steps;
 use switching::{ActDenied, judge};
-use topology::rebuild;
 
 impl Held {
-    /// The index and the overlay that an event leaves, or why it is refused.
-    pub(crate) fn moved(&self, alloc: Global, event: &Event) -> Result<(Index, Overlay), Denied>
-        requires { Agrees self.now }
-        ensures takes { IfOk result (λ moved. Takes (now_in self.now) event.now (record { model = moved.0; overlay = moved.1 })) }
-        ensures stands { IfOk result (λ moved. IsFaultless moved.0 × Stands moved.0 moved.1) }
-        ensures refused { (why : Refused) → result ≡ Err (denied.Refused why) → (why.at ≡ length self.now.log) × Refuses (now_in self.now) event.now why.why }
-    {
-        match event {
-            Event::Act(act) => {
-                let overlay = self.overlay_after(alloc, act)?;
-                Ok((self.index.share()?, overlay))
-            }
-            Event::Cutover(difference) => {
-                let index = self.index_after(alloc, difference.difference())?;
-                Ok((index, self.overlay.copy(alloc)?))
-            }
-        }
-    }
-
     /// The overlay that an act leaves.
-    fn overlay_after(&self, alloc: Global, act: &Act) -> Result<Overlay, Denied>
+    pub(crate) fn overlay_after(&self, alloc: Global, act: &Act) -> Result<Overlay, Denied>
         requires { Agrees self.now }
         ensures takes { IfOk result (λ overlay. Takes (now_in self.now) (event.Act act.now) (record { model = self.now.index; overlay = overlay })) }
         ensures stands { IfOk result (λ overlay. Stands self.now.index overlay) }
@@ -60,7 +40,11 @@ impl Held {
     }
 
     /// The index of the model that a difference leaves.
-    fn index_after(&self, alloc: Global, difference: &Difference) -> Result<Index, Denied>
+    pub(crate) fn index_after(
+        &self,
+        alloc: Global,
+        difference: &Difference,
+    ) -> Result<Index, Denied>
         requires { Agrees self.now }
         ensures takes { IfOk result (λ index. Takes (now_in self.now) (event.Cutover difference.now) (record { model = index; overlay = self.now.overlay })) }
         ensures stands { IfOk result (λ index. IsFaultless index × Stands index self.now.overlay) }
@@ -85,22 +69,13 @@ impl Held {
         })
     }
 
-    /// What is held with one more entry, which leaves this index and this overlay.
-    pub(crate) fn with<L: Ledger>(
-        &self,
-        alloc: Global,
-        entry: &Entry,
-        index: Index,
-        overlay: Overlay,
-        steps: &mut Steps<L>,
-    ) -> Result<Held, NoMemory>
+    /// What is held with one more entry, whose event leaves this network.
+    pub(crate) fn with(&self, entry: &Entry, moved: Moved) -> Result<Held, NoMemory>
         requires agrees { Agrees self.now }
         requires next { IsNext (Judges self.now.base) self.now.log entry.now }
-        requires takes { Takes (now_in self.now) entry.now.event (record { model = index; overlay = overlay }) }
-        requires stands { IsFaultless index × Stands index overlay }
+        requires moved { IsMoved self.now entry.now.event moved }
         ensures { IfOk result (λ held. Agrees held × (held.base ≡ self.now.base) × (held.log ≡ self.now.log ++ entry.now ∷ [])) }
     {
-        let graph = rebuild(alloc, &index, &overlay, steps)?;
         let mut log = self.log.share()?;
         if let Err((failed, _)) = log.push(entry.share()?) {
             return Err(failed);
@@ -108,10 +83,11 @@ impl Held {
         Ok(Held {
             base: self.base.share()?,
             log,
+            counts: self.counts.with(entry.console),
             bytes: self.bytes + bytes_of(&entry.event),
-            index,
-            overlay,
-            graph,
+            index: moved.index,
+            overlay: moved.overlay,
+            graph: moved.graph,
         })
     }
 }

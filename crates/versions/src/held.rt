@@ -1,5 +1,6 @@
 //! What a version holds.
 
+use crate::serials::Counts;
 use cim_records::Index;
 use graph_pages::Graph;
 use room_words::{Entry, Overlay};
@@ -11,6 +12,8 @@ use statement_set::StatementSet;
 pub(crate) struct Held {
     pub(crate) base: StatementSet,
     pub(crate) log: SharedList<Entry>,
+    /// How many entries of the log each console has.
+    pub(crate) counts: Counts,
     /// How many bytes the written forms of the log's differences have together.
     pub(crate) bytes: u64,
     pub(crate) index: Index,

@@ -5,6 +5,7 @@ mod advances;
 mod held;
 mod laws;
 mod limits;
+mod moved;
 mod serials;
 mod traces;
 mod version;

@@ -10,7 +10,7 @@ ghost use Rattle.versions.specs.History.{IsNow};
 use crate::held::Held;
 use crate::laws::histories_are_judged_in_one_way;
 use crate::limits::log_room;
-use crate::serials::count_of;
+use crate::serials::Counts;
 use board::Dated;
 use cim_model::the_empty_overlay_stands;
 use cim_records::Index;
@@ -63,6 +63,7 @@ impl Version {
             Held {
                 base,
                 log: SharedList::new(alloc),
+                counts: Counts::none(),
                 bytes: 0,
                 index,
                 overlay,
@@ -129,7 +130,7 @@ impl Advance for Version {
     }
 
     fn serial(&self, console: u8) -> u32 {
-        count_of(&self.held.log, console) + 1
+        self.held.counts.of(console) + 1
     }
 
     fn entry(&self, index: u32) -> &Entry {
@@ -146,11 +147,8 @@ impl Advance for Version {
         if let Err(full) = log_room(held.log.len() as u32, held.bytes, &entry.event) {
             return Err(held.refusal(Why::Log(full)));
         }
-        match held.moved(alloc, &entry.event) {
-            Ok((index, overlay)) => {
-                let held = held.with(alloc, entry, index, overlay, steps)?;
-                Ok(Version::of(alloc, held)?)
-            }
+        match held.moved(alloc, &entry.event, steps) {
+            Ok(moved) => Ok(Version::of(alloc, held.with(entry, moved)?)?),
             Err(denied) => Err(denied),
         }
     }

@@ -1,4 +1,4 @@
-use Rattle.std.proofs.Common.{◌≡◌, List, sym, subst}
+use Rattle.std.proofs.Common.{List, sym, subst}
 use Rattle.cim_words.specs.declared.statement.Statement.{Statement}
 use Rattle.versions.specs.History.{IsNow}
 use Rattle.versions.proofs.Agreeing.{now_of}

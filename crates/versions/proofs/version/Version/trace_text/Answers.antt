@@ -1,9 +1,8 @@
-use Rattle.std.proofs.Common.{◌≡◌, ◌∙◌, ℕ, List, false, true, length, sym, ap, subst, refl}
+use Rattle.std.proofs.Common.{◌≡◌, ◌∙◌, ℕ, false, true, sym, ap, subst, refl}
 use Rattle.cim_model.specs.Links.{network}
 use Rattle.graph_pages.specs.Walks.{wiring}
 use Rattle.room_words.specs.TraceText.{trace_text}
-use Rattle.versions.specs.Held.{Agrees, now_in, past_of}
-use Rattle.versions.specs.Past.{Past}
+use Rattle.versions.specs.Held.{Agrees, now_in}
 use Rattle.versions.proofs.Agreeing.{now_of}
 use Rattle.versions.proofs.TraceLemmas.{a_star, no_star, other_trace}
 use Rattle.versions.proofs.version.Version.trace_text.Goals as goal

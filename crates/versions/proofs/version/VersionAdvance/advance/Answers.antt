@@ -1,4 +1,4 @@
-use Rattle.std.proofs.Common.{◌≡◌, ℕ, List, length, Err, sym, ap, subst, ◌∙◌}
+use Rattle.std.proofs.Common.{◌≡◌, ℕ, length, Err, sym, ap, subst, ◌∙◌}
 use Rattle.room_words.specs.declared.refused.Denied.TheVariants.{Refused}
 use Rattle.versions.proofs.Agreeing.{judged_now, now_of}
 use Rattle.versions.specs.Past.{Past}
