@@ -1,26 +1,24 @@
-//! Random switching orders, answered as the plain program answers them.
+//! Random switching orders, answered as the plain program answers them, with graphs that are those made from nothing.
 
-ghost use Rattle.std.specs.Prelude.{◌≡◌, ◌<◌};
-ghost use Rattle.cim_model.specs.Stands.{Stands};
+ghost use Rattle.std.specs.Prelude.{◌<◌, IfOk};
+ghost use Rattle.cim_model.specs.Profile.{IsFaultless};
 
-use crate::network::{AB, ABC, NETWORK, statements};
+use crate::graphs::are_same;
+use crate::live::Live;
+use crate::network::{AB, ABC, NETWORK, NODES, statements};
 use crate::plain_judge::Plain;
 use crate::plain_trace::{Reached, reach_from};
 use cim_profile::first_break;
 use cim_records::Index;
-use cim_words::{Id, Length, Listed, NoMemory, PhaseSet};
+use cim_words::{Id, Length, NoMemory, PhaseSet};
 use feeder_trace::Tracer;
 use graph_pages::Graph;
 use room_words::{Act, ActRefusal, Anchor, Overlay};
 use std::alloc::Global;
-use std::marker::Brand;
 use std::process::Abort;
-use std::sync::ledger::{Blank, Ledger};
 use std::test::Fail;
-use step_count::Steps;
-use switching::{ActDenied, judge};
+use switching::ActDenied;
 use temporary::overlay_stands;
-use topology::rebuild;
 
 const ACTS: usize = 2000;
 
@@ -142,28 +140,14 @@ impl Random {
 }
 
 /// The network, looked up.
-fn index_of(alloc: Global) -> Result<Index, Fail> {
+fn index_of(alloc: Global) -> Result<Index, Fail>
+    ensures { IfOk result (λ index. IsFaultless index) }
+{
     let set = statements(alloc)?;
     match first_break(alloc, &set)? {
         Some(found) => Err(Fail::new(found.rule)),
         None => Ok(Index::build(alloc, &set)?),
     }
-}
-
-/// The graph of the network under an overlay.
-fn graph_of<L: Ledger>(
-    alloc: Global,
-    index: &Index,
-    overlay: &Overlay,
-    blank: Blank,
-) -> Result<Graph, NoMemory>
-    requires name { blank.name ≡ L.name }
-    requires parts { blank.parts ≡ L.parts }
-    requires some { blank.parts ≡ 1 }
-    requires stands { Stands index.now overlay.now }
-{
-    let mut steps = Steps::<L>::of(blank);
-    rebuild(alloc, index, overlay, &mut steps)
 }
 
 /// Whether a trace has just the rows of what the plain program reached.
@@ -209,17 +193,25 @@ fn are_traced(alloc: Global, graph: &Graph, plain: &Plain) -> Result<bool, NoMem
     Ok(true)
 }
 
-/// Whether traces of the network under an overlay are those of the plain program.
-fn is_right(
-    alloc: Global,
-    index: &Index,
-    overlay: &Overlay,
-    plain: &Plain,
-) -> Result<bool, NoMemory>
-    requires { Stands index.now overlay.now }
-{
-    let graph = graph_of::<Brand>(alloc, index, overlay, Blank::new(1))?;
-    are_traced(alloc, &graph, plain)
+/// All nodes, what is none, and the sides that items may have.
+fn places(alloc: Global) -> Result<Vec<Anchor>, NoMemory> {
+    let mut places = Vec::new(alloc);
+    for node in NODES {
+        places.push(Anchor::Node(Id::of(node)))?;
+    }
+    places.push(Anchor::Node(Id::of(0x51)))?;
+    for item in NEW {
+        places.push(Anchor::Side(Id::of(item), 1))?;
+        places.push(Anchor::Side(Id::of(item), 2))?;
+        places.push(Anchor::Side(Id::of(item), 3))?;
+    }
+    Ok(places)
+}
+
+/// Whether the patched graph is the one made from nothing.
+fn is_as_rebuilt(alloc: Global, live: &Live, places: &[Anchor]) -> Result<bool, NoMemory> {
+    let rebuilt = live.rebuilt(alloc)?;
+    Ok(are_same(live.graph(), &rebuilt, places))
 }
 
 /// How many of the fourteen refusals came: a bit for each but Crowded and Full, for which the network is too small.
@@ -250,8 +242,8 @@ fn is_same(overlay: &Overlay, plain: &Plain) -> bool {
 #[test]
 fn answers_as_the_plain_program(rt: HostRuntime) -> Result<(), Fail> {
     let alloc = rt.alloc();
-    let index = index_of(alloc)?;
-    let mut overlay = Overlay::empty(alloc);
+    let places = places(alloc)?;
+    let mut live = Live::first(alloc, index_of(alloc)?)?;
     let mut plain = Plain {
         items: Vec::new(alloc),
         positions: Vec::new(alloc),
@@ -261,12 +253,16 @@ fn answers_as_the_plain_program(rt: HostRuntime) -> Result<(), Fail> {
     for number in 0..ACTS {
         let act = random.act();
         let want = plain.refusal(alloc, &act)?;
-        assert!(rt; overlay_stands(&index, &overlay), "before act {number}");
-        match judge(alloc, &index, &overlay, &act) {
+        match live.after(alloc, &act) {
             Ok(new) => {
                 assert!(rt; want.is_none(), "act {number} is refused");
                 plain.act(&act)?;
-                overlay = new;
+                assert!(rt; is_as_rebuilt(alloc, &new, &places)?, "after act {number}");
+                assert!(rt;
+                    is_as_rebuilt(alloc, &live, &places)?,
+                    "before act {number}"
+                );
+                live = new;
             }
             Err(ActDenied::Refusal(why)) => {
                 assert!(rt; want == Some(why), "act {number} has another refusal");
@@ -274,11 +270,14 @@ fn answers_as_the_plain_program(rt: HostRuntime) -> Result<(), Fail> {
             }
             Err(ActDenied::NoMemory) => return Err(NoMemory.into()),
         }
-        assert!(rt; is_same(&overlay, &plain), "after act {number}");
+        assert!(rt; is_same(live.overlay(), &plain), "after act {number}");
         if want.is_none() {
-            assert!(rt; overlay_stands(&index, &overlay), "after act {number}");
             assert!(rt;
-                is_right(alloc, &index, &overlay, &plain)?,
+                overlay_stands(live.index(), live.overlay()),
+                "after act {number}"
+            );
+            assert!(rt;
+                are_traced(alloc, live.graph(), &plain)?,
                 "after act {number}"
             );
         }

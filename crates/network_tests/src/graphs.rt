@@ -59,6 +59,9 @@ fn finds_stars_and_members(rt: HostRuntime) -> Result<(), Fail> {
         let members = graph.members(Anchor::Node(Id::of(node)));
         assert_eq!(rt; members.map_or(0, |terms| terms.len()), count, "at {node}");
     }
-    assert_eq!(rt; graph.stars().count(), 2);
+    let stars = graph
+        .stars()
+        .fold(0_usize, |count, _| count.saturating_add(1));
+    assert_eq!(rt; stars, 2);
     Ok(())
 }

@@ -1,0 +1,4 @@
+use Rattle.act_tests.proofs.live.Live.first.Given as goal
+
+abbrev pub ghosts-graph_of : goal.ghosts-graph_of
+ghosts-graph_of a = record { name = a.blank.name; parts = a.blank.parts }
