@@ -1,6 +1,6 @@
 //! A version of a history that goes on by one entry at a time.
 
-ghost use Rattle.std.specs.Prelude.{ℕ, ◌≡◌, ◌<◌, ◌++◌, ◌∷◌, [], List, slice_index_or, length, Option, None, Some, Err, IfOk};
+ghost use Rattle.std.specs.Prelude.{ℕ, ◌≡◌, ◌+◌, ◌<◌, ◌≤◌, ◌++◌, ◌∷◌, [], List, slice_index_or, length, Option, None, Some, Err, IfOk, IfSome};
 ghost use Rattle.desk.specs.Consoles.{IsConsole, most_consoles, next_serial};
 ghost use Rattle.desk.specs.Legal.{Judgement, IsLegal, IsNext};
 ghost use Rattle.room_words.specs.declared.event.Entry.{Entry};
@@ -23,8 +23,8 @@ pub trait Advance: Dated<Item = Entry> {
     /// How an event is answered from an origin and after a list of entries.
     ghost judges: { Self.Origin → Judgement };
 
-    /// How many steps an event takes at most.
-    ghost ticks: { Event → ℕ };
+    /// How many steps an event takes at most, where that is said.
+    ghost ticks: { Event → Option ℕ };
 
     /// An event is answered in one way.
     fn one_judgement()
@@ -53,7 +53,8 @@ pub trait Advance: Dated<Item = Entry> {
         ensures log { IfOk result (λ new. Self.log new ≡ Self.log self.now ++ entry.now ∷ []) }
         ensures origin { IfOk result (λ new. Self.origin new ≡ Self.origin self.now) }
         ensures refused { (why : Refused) → result ≡ Err (denied.Refused why)
-            → (why.at ≡ length (Self.log self.now)) × judges (Self.origin self.now) (Self.log self.now) entry.now.event (Some why.why) };
+            → (why.at ≡ length (Self.log self.now)) × judges (Self.origin self.now) (Self.log self.now) entry.now.event (Some why.why) }
+        ensures bound { IfSome (ticks entry.now.event) (λ most. steps.new ≤ steps.old + most) };
 }
 
 /// A legal history is legal so far at each entry, and goes on by an entry that may come next.
