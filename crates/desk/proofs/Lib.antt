@@ -1,1 +1,4 @@
 pub mod Legal
+pub mod Receipts
+pub mod Holdings
+pub mod Counting

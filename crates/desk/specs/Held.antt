@@ -1,5 +1,5 @@
 -- What the parts of a room say of one another while they are apart.
-use Rattle.std.specs.Prelude.{ℕ, ◌≡◌, ◌<◌, ◌≤◌, List, [], length, Some, IfSome, All, map, slice_get}
+use Rattle.std.specs.Prelude.{ℕ, ◌≡◌, ◌+◌, ◌<◌, ◌≤◌, List, [], length, Some, IfSome, All, map, slice_get}
 use Rattle.atomic_table.specs.Seated.{TableId}
 use Rattle.board.specs.Ends.{ReaderState, WriterState, newly_seated}
 use Rattle.desk.specs.Ends.{PostState, number_of}

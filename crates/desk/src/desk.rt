@@ -15,13 +15,12 @@ use crate::advance::{Advance, legal_histories_go_on};
 use crate::name::RoomName;
 use crate::post::Post;
 use crate::posts::{gather, hand_out};
-use crate::prepared::Prepared;
+use crate::prepared::{Prepared, make_copies};
 use crate::seed::RoomSeed;
-use board::{Closed, Copies, NoMemory, Reader, Writer, close};
+use board::{Closed, NoMemory, Reader, Writer, close};
 use room_words::{Denied, Entry, Receipt};
 use std::alloc::Global;
 use std::marker::Model;
-use std::snapshot::Snapshot;
 use std::sync::ledger::{Book, Ledger, Share};
 use step_count::Steps;
 
@@ -113,17 +112,9 @@ impl<V: Advance + Send + Sync, N: RoomName> Desk<V, N> {
             → (why.at ≡ length (V.log self.now.current)) × V.judges (V.origin self.now.current) (V.log self.now.current) entry.now.event (Some why.why) }
         ensures bound { IfSome (V.ticks entry.now.event) (λ most. steps.new ≤ steps.old + most) }
     {
-        let version = self.writer.last().advance(alloc, entry, steps)?;
-        let number = version.number();
-        match Copies::of(alloc, version, self.consoles) {
-            Ok(copies) => Ok(Prepared {
-                copies,
-                entry: Snapshot::of(entry),
-                console: entry.console,
-                serial: entry.serial,
-                number,
-            }),
-            Err(_) => Err(Denied::NoMemory),
+        match self.writer.last().advance(alloc, entry, steps) {
+            Ok(version) => Ok(make_copies(alloc, entry, version, self.consoles)?),
+            Err(denied) => Err(denied),
         }
     }
 
@@ -142,7 +133,6 @@ impl<V: Advance + Send + Sync, N: RoomName> Desk<V, N> {
         ensures before { IsPrefix post.old.reader.seen (V.log self.old.current) }
         ensures origin { post.old.reader.origin ≡ Some (V.origin self.old.current) }
     {
-        legal_histories_go_on::<V>();
         let Prepared {
             copies,
             entry: _,

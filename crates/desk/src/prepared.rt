@@ -1,7 +1,10 @@
 //! A version that is ready to be published.
+ghost use Rattle.std.specs.Prelude.{◌≡◌, ◌<◌, ◌≤◌, IfOk};
+
 use crate::advance::Advance;
-use board::Copies;
+use board::{Copies, NoMemory};
 use room_words::Entry;
+use std::alloc::Global;
 use std::marker::Model;
 use std::snapshot::Snapshot;
 
@@ -24,4 +27,27 @@ impl<V: Advance + Send + Sync> Model for Prepared<V> {
     ghost view = { λ p. record { entry = p.entry.value; version = p.copies.version; consoles = p.copies.consoles } };
 
     ghost invariant = { λ p. (p.console ≡ p.entry.value.console) × (p.serial ≡ p.entry.value.serial) × (p.number ≡ length (V.log p.copies.version)) };
+}
+
+/// The version with its copies, for its entry.
+pub(crate) fn make_copies<V: Advance + Send + Sync>(
+    alloc: Global,
+    entry: &Entry,
+    version: V,
+    consoles: u8,
+) -> Result<Prepared<V>, NoMemory>
+    requires { (0 < consoles) × (consoles ≤ 16) }
+    ensures { IfOk result (λ prepared. prepared ≡ record { entry = entry.now; version = version; consoles = consoles }) }
+{
+    let number = version.number();
+    match Copies::of(alloc, version, consoles) {
+        Ok(copies) => Ok(Prepared {
+            copies,
+            entry: Snapshot::of(entry),
+            console: entry.console,
+            serial: entry.serial,
+            number,
+        }),
+        Err((failed, _)) => Err(failed),
+    }
 }
