@@ -1,11 +1,12 @@
 -- The receipts of all consoles: where they are as many as the entries of the log, they are these, each once.
-use Rattle.std.proofs.Common.{◌≡◌, ℕ, zero, suc, ◌+◌, ◌<◌, ◌≤◌, List, [], ◌∷◌, length, Bool, true, false, cond, All, Some, slice_get, refl, ap, sym, ◌∙◌, arith, ◌==◌}
+use Rattle.std.proofs.Common.{◌≡◌, ℕ, zero, suc, ◌+◌, ◌<◌, ◌≤◌, List, [], ◌∷◌, length, Bool, true, false, cond, All, Some, slice_get, refl, ap, sym, ◌∙◌, arith, rules, ◌==◌}
 use mathlib.Core.Logic.{dite}
 use native.Mathlib.Decide.{ℕ_discrete}
 use Rattle.std.specs.List.{filter, sum_by}
 use Rattle.std.proofs.lemmas.List.Elements.{All-head, All-tail, All-cons, All-nil}
 use Rattle.std.proofs.lemmas.List.Sums.{sum_by-cons}
-use Rattle.desk.proofs.Receipts.{some_length, some_all}
+use Rattle.desk.proofs.Receipts.{some_length, some_all, named_more}
+use Rattle.board.specs.Lists.{IsPrefix}
 use Rattle.desk.specs.Ends.{PostState, number_of, AreAllPosts}
 use Rattle.desk.specs.Receipts.{AreSomeOf, receipts_after, receipts_in}
 use Rattle.room_words.specs.declared.event.Entry.{Entry}
@@ -31,6 +32,21 @@ module _ {X : Type 0} (f g : X → ℕ) where
       (omega (arith, tight, rest, sum_by-cons f x xs, sum_by-cons g x xs))
       (sums_tight xs others (omega (arith, tight, first, sum_by-cons f x xs, sum_by-cons g x xs)))
 
+after_length : (before : ℕ) (log : List Entry) → length (receipts_after before log) ≡ length log
+after_length before [] = refl
+after_length before (entry ∷ log) = ap suc (after_length (before + 1) log)
+
+one_test : (m n : ℕ) → (m ≡ n → ⊥) → cond {A = ℕ} (m == n) 1 0 ≡ 0
+one_test m n differ = tested (m == n) refl
+  where
+    tested : (b : Bool) → (m == n) ≡ b → cond {A = ℕ} b 1 0 ≡ 0
+    tested false is = refl
+    tested true is = absurd (differ (search rules))
+
+one_at_most : (b : Bool) → cond {A = ℕ} b 1 0 ≤ 1
+one_at_most true = omega arith
+one_at_most false = omega arith
+
 module _ {V O : Type 0} where
   -- posts that stand in the order of their consoles, from this one on
   abbrev InOrder : ℕ → List (PostState V O) → Type 0
@@ -42,17 +58,6 @@ module _ {V O : Type 0} where
   -- how many of the posts a receipt belongs to
   abbrev belongs : Receipt → PostState V O → ℕ
   belongs receipt post = cond (receipt.console == number_of post) 1 0
-
-  one_test : (m n : ℕ) → (m ≡ n → ⊥) → cond {A = ℕ} (m == n) 1 0 ≡ 0
-  one_test m n differ = tested (m == n) refl
-    where
-      tested : (b : Bool) → (m == n) ≡ b → cond {A = ℕ} b 1 0 ≡ 0
-      tested false is = refl
-      tested true is = absurd (differ (search rules))
-
-  belongs_few : (b : Bool) → cond {A = ℕ} b 1 0 ≤ 1
-  belongs_few true = omega arith
-  belongs_few false = omega arith
 
   none_belongs : (receipt : Receipt) (first : ℕ) (posts : List (PostState V O)) → InOrder first posts → receipt.console < first → sum_by (belongs receipt) posts ≡ 0
   none_belongs receipt first [] order less = refl
@@ -69,7 +74,7 @@ module _ {V O : Type 0} where
       let step = sum_by-cons (belongs receipt) post posts in
       dite (ℕ_discrete receipt.console (number_of post))
       (λ e.
-          let few = belongs_few (receipt.console == number_of post) in
+          let few = one_at_most (receipt.console == number_of post) in
           let rest = none_belongs receipt (first + 1) posts (in_order_rest first post posts order) (omega (arith, e, number)) in
           omega (arith, few, rest, step))
       (λ ne.
@@ -83,12 +88,12 @@ module _ {V O : Type 0} where
 
   theirs_nothing : (posts : List (PostState V O)) → sum_by (theirs []) posts ≡ 0
   theirs_nothing [] = refl
-  theirs_nothing (post ∷ posts) = sum_by-cons (theirs []) post posts ∙ theirs_nothing posts
+  theirs_nothing (post ∷ posts) = let rest = theirs_nothing posts in omega (arith, rest, sum_by-cons (theirs []) post posts)
 
   theirs_one : (receipt : Receipt) (receipts : List Receipt) (post : PostState V O) (b : Bool) → (receipt.console == number_of post) ≡ b
       → theirs (receipt ∷ receipts) post ≡ belongs receipt post + theirs receipts post
   theirs_one receipt receipts post true is = rw is (omega arith)
-  theirs_one receipt receipts post false is = rw is refl
+  theirs_one receipt receipts post false is = rw is (omega arith)
 
   theirs_more : (receipt : Receipt) (receipts : List Receipt) (posts : List (PostState V O)) → sum_by (theirs (receipt ∷ receipts)) posts ≡ sum_by (belongs receipt) posts + sum_by (theirs receipts) posts
   theirs_more receipt receipts [] = refl
@@ -103,10 +108,6 @@ module _ {V O : Type 0} where
       let one = one_belongs receipt first posts order in
       let rest = theirs_all receipts first posts order in
       omega (arith, one, rest, theirs_more receipt receipts posts)
-
-  pub after_length : (before : ℕ) (log : List Entry) → length (receipts_after before log) ≡ length log
-  after_length before [] = refl
-  after_length before (entry ∷ log) = ap suc (after_length (before + 1) log)
 
   -- the posts' receipts name entries of the log, and are as many: each post has those of its console
   abbrev Named : List Entry → PostState V O → Type 0
@@ -136,3 +137,14 @@ module _ {V O : Type 0} where
       let count = after_length 0 log in
       all_equal log posts named
       (sums_tight (λ (post : PostState V O). length post.receipts) (theirs (receipts_after 0 log)) posts (all_named log posts named) (omega (arith, few, count, made)))
+
+  -- what names entries that a post has seen names entries of the log
+  pub named_in_log : (log : List Entry) (posts : List (PostState V O)) → All (λ post. AreSomeOf post.receipts (receipts_in (number_of post) post.reader.seen)) posts → All (λ post. IsPrefix post.reader.seen log) posts
+      → All (Named log) posts
+  named_in_log log [] named seen = All-nil (Named log)
+  named_in_log log (post ∷ posts) named seen =
+      All-cons (Named log) post posts
+      (named_more (number_of post) post.receipts post.reader.seen log (All-head (λ (other : PostState V O). AreSomeOf other.receipts (receipts_in (number_of other) other.reader.seen)) post posts named)
+          (All-head (λ (other : PostState V O). IsPrefix other.reader.seen log) post posts seen))
+      (named_in_log log posts (All-tail (λ (other : PostState V O). AreSomeOf other.receipts (receipts_in (number_of other) other.reader.seen)) post posts named)
+          (All-tail (λ (other : PostState V O). IsPrefix other.reader.seen log) post posts seen))

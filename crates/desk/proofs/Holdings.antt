@@ -1,17 +1,38 @@
 -- What desks and posts hold after a step.
-use Rattle.std.proofs.Common.{◌≡◌, ℕ, ◌+◌, ◌≤◌, List, [], ◌∷◌, ◌++◌, length, Some, refl, ap, sym, subst, ◌∙◌, arith, length-append}
+use Rattle.std.proofs.Common.{◌≡◌, ℕ, ◌+◌, ◌<◌, ◌≤◌, List, [], ◌∷◌, ◌++◌, length, Some, refl, ap, sym, subst, ◌∙◌, arith, rules, length-append, cond, nat_le, true, take, slice_get, map, All, IfSome}
+use Rattle.std.proofs.lemmas.List.{length-take, length-map}
 use Rattle.atomic_table.specs.Seated.{TableId}
-use Rattle.board.specs.Ends.{ReaderState, WriterState}
-use Rattle.board.specs.Lists.{IsPrefix}
-use Rattle.desk.proofs.Legal.{legal_grows}
+use Rattle.board.specs.Ends.{ReaderState, WriterState, newly_seated}
+use Rattle.board.specs.Lists.{IsPrefix, longer}
+use Rattle.desk.proofs.Legal.{legal_empty, legal_grows}
+use Rattle.desk.proofs.Queues.{get_map, get_mapped, get_within}
 use Rattle.desk.proofs.Receipts.{named_more, named_last, none_of}
-use Rattle.desk.specs.Ends.{PreparedState}
+use Rattle.desk.specs.Ends.{PreparedState, PostState, AreAllPosts}
 use Rattle.desk.specs.Follows.{Follows}
-use Rattle.desk.specs.Held.{HeldByDesk, HeldByPost}
+use Rattle.desk.specs.Held.{HeldByDesk, HeldByPost, HeldBySeed, AreFresh}
 use Rattle.desk.specs.Legal.{Judgement, IsLegal}
 use Rattle.desk.specs.Receipts.{AreSomeOf, receipt_of, receipts_in}
 use Rattle.room_words.specs.declared.event.Entry.{Entry}
 use Rattle.room_words.specs.declared.receipt.Receipt.{Receipt}
+
+-- what was told is longer than what it goes on from
+pub told_is_longer : (xs ys zs : List Entry) → IsPrefix xs ys → longer xs (ys ++ zs) ≡ ys ++ zs
+told_is_longer xs ys zs begins =
+    let cut = length-take (length xs) ys in
+    let same : length (take (length xs) ys) ≡ length xs = ap length begins in
+    let both = length-append ys zs in
+    let few : length xs ≤ length (ys ++ zs) = omega (arith, cut, same, both) in
+    ap (λ b. cond b (ys ++ zs) xs) (search rules)
+
+-- the receipt of the last entry
+receipt : ℕ → ℕ → ℕ → Receipt
+receipt console serial number = record { console = console; serial = serial; number = number }
+
+pub receipt_is : (log longer : List Entry) (entry : Entry) (console serial number : ℕ) → longer ≡ log ++ entry ∷ [] → console ≡ entry.console → serial ≡ entry.serial → number ≡ length longer
+    → record { console = console; serial = serial; number = number } ≡ receipt_of (length log) entry
+receipt_is log longer entry console serial number more of_console of_serial count =
+    let last : number ≡ length log + 1 = let both : length longer ≡ length (log ++ entry ∷ []) = ap length more in omega (arith, count, both, length-append log (entry ∷ [])) in
+    ap (λ (n : ℕ). receipt n serial number) of_console ∙ ap (λ (n : ℕ). receipt entry.console n number) of_serial ∙ ap (λ (n : ℕ). receipt entry.console entry.serial n) last
 
 module _ {V O : Type 0} (board : TableId) (reader : ReaderState V Entry O) (receipts : List Receipt) (console parts amount : ℕ) where
   -- a post without receipts
@@ -54,6 +75,23 @@ module _ {V O : Type 0} (board : TableId) (reader : ReaderState V Entry O) (rece
       }
 
 module _ {V O : Type 0} (judges : O → Judgement) (origin : V → O) (log : V → List Entry) (board : TableId) (posts : ℕ) (writer : WriterState V O) (book : ℕ) where
+  -- a desk of a seed
+  pub desk_begins : (readers : List (ReaderState V Entry O)) (consoles parts : ℕ) → HeldBySeed origin log writer readers consoles parts → writer.board ≡ board → consoles ≡ posts → book ≡ 0
+      → HeldByDesk judges origin log board posts writer book
+  desk_begins readers consoles parts held here are none =
+      let count : length (log writer.last) ≡ 0 = ap length held.empty in
+      let told : writer.told ≡ 0 = ap (λ (w : WriterState V O). w.told) held.writer_is in
+      record {
+        board_is = here;
+        consoles_are = ap (λ (w : WriterState V O). w.consoles) held.writer_is ∙ are;
+        some = let some = held.some in omega (arith, some, are);
+        few = let few = held.few in omega (arith, few, are);
+        began = ap (λ (w : WriterState V O). w.origin) held.writer_is;
+        legal = subst (IsLegal (judges (origin writer.last))) (sym held.empty) (legal_empty (judges (origin writer.last)));
+        counted = none ∙ sym count;
+        told_few = omega (arith, told);
+      }
+
   -- a desk that published a version with one more entry
   pub desk_goes_on : HeldByDesk judges origin log board posts writer book → (prepared : PreparedState V) → Follows judges origin log writer.last prepared
       → (after : WriterState V O) → after ≡ record writer { last = prepared.version; told = writer.told + 1 } → (book_after : ℕ) → book_after ≡ book + 1
@@ -72,3 +110,30 @@ module _ {V O : Type 0} (judges : O → Judgement) (origin : V → O) (log : V �
           counted = omega (arith, one_more, held.counted, count, more);
           told_few = omega (arith, held.told_few, count, more);
         })
+
+-- the posts of a seed's readers
+module _ {V O : Type 0} (origin : V → O) (log : V → List Entry) (writer : WriterState V O) (readers : List (ReaderState V Entry O)) (consoles parts : ℕ)
+  (held : HeldBySeed origin log writer readers consoles parts) (posts : List (PostState V O)) (fresh : AreFresh readers posts) where
+  abbrev reader_of : PostState V O → ReaderState V Entry O
+  reader_of post = post.reader
+
+  abbrev seated : ℕ → ReaderState V Entry O
+  seated console = newly_seated writer.board console [] (origin writer.last) writer.last
+
+  posts_count : length posts ≡ consoles
+  posts_count = sym (length-map posts reader_of) ∙ ap length fresh.0 ∙ held.count
+
+  pub posts_in_order : AreAllPosts consoles posts
+  posts_in_order =
+      record {
+        count = posts_count;
+        order = λ index post is.
+            let within : index < length posts = get_within posts index post is in
+            let there : slice_get readers index ≡ Some post.reader = ap (λ xs. slice_get xs index) (sym fresh.0) ∙ get_map reader_of posts index post is in
+            let same : Some post.reader ≡ Some (seated index) = sym there ∙ held.each index (omega (arith, within, posts_count)) in
+            let is_seated : post.reader ≡ seated index = cc in
+            ap (λ (r : ReaderState V Entry O). r.console) is_seated;
+      }
+
+  pub posts_fresh : (index : ℕ) → index < consoles → IfSome (slice_get posts index) (λ post. (post.reader ≡ seated index) × (post.receipts ≡ []))
+  posts_fresh index within = get_mapped reader_of (λ post. post.receipts ≡ []) posts index (seated index) (ap (λ xs. slice_get xs index) fresh.0 ∙ held.each index within) fresh.1

@@ -1,4 +1,5 @@
 pub mod Legal
 pub mod Receipts
 pub mod Holdings
+pub mod Queues
 pub mod Counting
