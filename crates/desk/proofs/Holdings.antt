@@ -1,5 +1,6 @@
 -- What desks and posts hold after a step.
-use Rattle.std.proofs.Common.{◌≡◌, ℕ, ◌+◌, ◌<◌, ◌≤◌, List, [], ◌∷◌, ◌++◌, length, Some, refl, ap, sym, subst, ◌∙◌, arith, rules, length-append, cond, nat_le, true, take, slice_get, map, All, IfSome}
+use Rattle.std.proofs.Common.{◌≡◌, ℕ, ◌+◌, ◌<◌, ◌≤◌, List, [], ◌∷◌, ◌++◌, length, Some, refl, ap, sym, subst, ◌∙◌, arith, length-append, Bool, cond, nat_le, true, take, slice_get, map, All, IfSome}
+use Rattle.std.proofs.lemmas.Bool.Decides.{nat_tests}
 use Rattle.std.proofs.lemmas.List.{length-take, length-map}
 use Rattle.atomic_table.specs.Seated.{TableId}
 use Rattle.board.specs.Ends.{ReaderState, WriterState, newly_seated}
@@ -22,10 +23,11 @@ told_is_longer xs ys zs begins =
     let same : length (take (length xs) ys) ≡ length xs = ap length begins in
     let both = length-append ys zs in
     let few : length xs ≤ length (ys ++ zs) = omega (arith, cut, same, both) in
-    ap (λ b. cond b (ys ++ zs) xs) (search rules)
+    let yes : nat_le (length xs) (length (ys ++ zs)) ≡ true = grind (arith, nat_tests) in
+    ap (λ (b : Bool). cond b (ys ++ zs) xs) yes
 
 -- the receipt of the last entry
-receipt : ℕ → ℕ → ℕ → Receipt
+abbrev receipt : ℕ → ℕ → ℕ → Receipt
 receipt console serial number = record { console = console; serial = serial; number = number }
 
 pub receipt_is : (log longer : List Entry) (entry : Entry) (console serial number : ℕ) → longer ≡ log ++ entry ∷ [] → console ≡ entry.console → serial ≡ entry.serial → number ≡ length longer

@@ -49,5 +49,7 @@ pub returns-clause-receipts : goal.returns-clause-receipts
 returns-clause-receipts g c =
     let State : Type 0 = PostState g.row.V.Denot g.row.V-Origin.Denot in
     let log = g.V.Dated.log c.args.self.current in
-    let made : sum_by (λ (post : State). length post.receipts) c.args.posts.items ≡ length log = search rules in
+    let made : sum_by (λ (post : State). length post.receipts) c.args.posts.items ≡ length log =
+    sym c.gather-all.ensures.amount ∙ c.audit.ensures.whole (c.gather-all.ensures.parts ∙ c.requires.all.count ∙ c.requires.room)
+    ∙ c.self.invariant.0.counted ∙ ap (λ (desk : DeskState g.row.V.Denot). length (g.V.Dated.log desk.current)) c.self.view_is in
     receipts_are_all g.N.RoomName.posts log c.args.posts.items c.requires.all (named_in_log log c.args.posts.items c.gather-all.ensures.named (returns-clause-seen g c)) made
