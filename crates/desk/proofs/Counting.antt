@@ -1,5 +1,5 @@
 -- The receipts of all consoles: where they are as many as the entries of the log, they are these, each once.
-use Rattle.std.proofs.Common.{◌≡◌, ℕ, zero, suc, ◌+◌, ◌<◌, ◌≤◌, List, [], ◌∷◌, length, Bool, true, false, cond, All, Some, slice_get, refl, ap, sym, ◌∙◌, arith, rules, ◌==◌}
+use Rattle.std.proofs.Common.{◌≡◌, ℕ, suc, ◌+◌, ◌<◌, ◌≤◌, List, [], ◌∷◌, length, Bool, true, false, cond, All, Some, slice_get, refl, ap, arith, rules, ◌==◌}
 use mathlib.Core.Logic.{dite}
 use native.Mathlib.Decide.{ℕ_discrete}
 use Rattle.std.specs.List.{filter, sum_by}
@@ -74,13 +74,13 @@ module _ {V O : Type 0} where
       let step = sum_by-cons (belongs receipt) post posts in
       dite (ℕ_discrete receipt.console (number_of post))
       (λ e.
-          let few = one_at_most (receipt.console == number_of post) in
-          let rest = none_belongs receipt (first + 1) posts (in_order_rest first post posts order) (omega (arith, e, number)) in
-          omega (arith, few, rest, step))
+      let few = one_at_most (receipt.console == number_of post) in
+      let rest = none_belongs receipt (first + 1) posts (in_order_rest first post posts order) (omega (arith, e, number)) in
+      omega (arith, few, rest, step))
       (λ ne.
-          let here = one_test receipt.console (number_of post) ne in
-          let rest = one_belongs receipt (first + 1) posts (in_order_rest first post posts order) in
-          omega (arith, here, rest, step))
+      let here = one_test receipt.console (number_of post) ne in
+      let rest = one_belongs receipt (first + 1) posts (in_order_rest first post posts order) in
+      omega (arith, here, rest, step))
 
   -- the receipts of a list that belong to a post
   abbrev theirs : List Receipt → PostState V O → ℕ
@@ -126,7 +126,7 @@ module _ {V O : Type 0} where
   all_equal log (post ∷ posts) named many =
       All-cons (λ (other : PostState V O). other.receipts ≡ receipts_in (number_of other) log) post posts
       (some_all post.receipts (receipts_in (number_of post) log) (All-head (Named log) post posts named)
-          (All-head (λ (other : PostState V O). theirs (receipts_after 0 log) other ≤ length other.receipts) post posts many))
+      (All-head (λ (other : PostState V O). theirs (receipts_after 0 log) other ≤ length other.receipts) post posts many))
       (all_equal log posts (All-tail (Named log) post posts named) (All-tail (λ (other : PostState V O). theirs (receipts_after 0 log) other ≤ length other.receipts) post posts many))
 
   pub receipts_are_all : (consoles : ℕ) (log : List Entry) (posts : List (PostState V O)) → AreAllPosts consoles posts → All (Named log) posts → sum_by (λ post. length post.receipts) posts ≡ length log
@@ -145,6 +145,6 @@ module _ {V O : Type 0} where
   named_in_log log (post ∷ posts) named seen =
       All-cons (Named log) post posts
       (named_more (number_of post) post.receipts post.reader.seen log (All-head (λ (other : PostState V O). AreSomeOf other.receipts (receipts_in (number_of other) other.reader.seen)) post posts named)
-          (All-head (λ (other : PostState V O). IsPrefix other.reader.seen log) post posts seen))
+      (All-head (λ (other : PostState V O). IsPrefix other.reader.seen log) post posts seen))
       (named_in_log log posts (All-tail (λ (other : PostState V O). AreSomeOf other.receipts (receipts_in (number_of other) other.reader.seen)) post posts named)
-          (All-tail (λ (other : PostState V O). IsPrefix other.reader.seen log) post posts seen))
+      (All-tail (λ (other : PostState V O). IsPrefix other.reader.seen log) post posts seen))

@@ -1,5 +1,5 @@
 -- What desks and posts hold after a step.
-use Rattle.std.proofs.Common.{◌≡◌, ℕ, ◌+◌, ◌<◌, ◌≤◌, List, [], ◌∷◌, ◌++◌, length, Some, refl, ap, sym, subst, ◌∙◌, arith, length-append, Bool, cond, nat_le, true, take, slice_get, map, All, IfSome}
+use Rattle.std.proofs.Common.{◌≡◌, ℕ, ◌+◌, ◌<◌, ◌≤◌, List, [], ◌∷◌, ◌++◌, length, Some, ap, sym, subst, ◌∙◌, arith, length-append, Bool, cond, nat_le, true, take, slice_get, IfSome}
 use Rattle.std.proofs.lemmas.Bool.Decides.{nat_tests}
 use Rattle.std.proofs.lemmas.List.{length-take, length-map}
 use Rattle.atomic_table.specs.Seated.{TableId}
@@ -73,7 +73,7 @@ module _ {V O : Type 0} (board : TableId) (reader : ReaderState V Entry O) (rece
         counted = let count : length more ≡ length (receipts ++ receipt_of (length log) entry ∷ []) = ap length longer in omega (arith, one_more, held.counted, count, length-append receipts (receipt_of (length log) entry ∷ []));
         named = subst (λ (list : List Entry). AreSomeOf more (receipts_in console list)) (sym seen)
             (subst (λ (list : List Receipt). AreSomeOf list (receipts_in console (log ++ entry ∷ []))) (sym longer)
-                (named_last console receipts log entry (named_more console receipts reader.seen log held.named begins) its));
+            (named_last console receipts log entry (named_more console receipts reader.seen log held.named begins) its));
       }
 
 module _ {V O : Type 0} (judges : O → Judgement) (origin : V → O) (log : V → List Entry) (board : TableId) (posts : ℕ) (writer : WriterState V O) (book : ℕ) where
@@ -103,19 +103,19 @@ module _ {V O : Type 0} (judges : O → Judgement) (origin : V → O) (log : V �
       let more = length-append (log writer.last) (prepared.entry ∷ []) in
       let grown : IsLegal (judges (origin writer.last)) (log writer.last ++ prepared.entry ∷ []) = legal_grows (judges (origin writer.last)) (log writer.last) prepared.entry held.legal follows.next in
       subst (λ (w : WriterState V O). HeldByDesk judges origin log board posts w book_after) (sym is) (record {
-          board_is = held.board_is;
-          consoles_are = held.consoles_are;
-          some = held.some;
-          few = held.few;
-          began = held.began ∙ ap (λ (o : O). Some o) (sym follows.began);
-          legal = subst (λ (o : O). IsLegal (judges o) (log prepared.version)) (sym follows.began) (subst (IsLegal (judges (origin writer.last))) (sym follows.log_is) grown);
-          counted = omega (arith, one_more, held.counted, count, more);
-          told_few = omega (arith, held.told_few, count, more);
-        })
+        board_is = held.board_is;
+        consoles_are = held.consoles_are;
+        some = held.some;
+        few = held.few;
+        began = held.began ∙ ap (λ (o : O). Some o) (sym follows.began);
+        legal = subst (λ (o : O). IsLegal (judges o) (log prepared.version)) (sym follows.began) (subst (IsLegal (judges (origin writer.last))) (sym follows.log_is) grown);
+        counted = omega (arith, one_more, held.counted, count, more);
+        told_few = omega (arith, held.told_few, count, more);
+      })
 
 -- the posts of a seed's readers
 module _ {V O : Type 0} (origin : V → O) (log : V → List Entry) (writer : WriterState V O) (readers : List (ReaderState V Entry O)) (consoles parts : ℕ)
-  (held : HeldBySeed origin log writer readers consoles parts) (posts : List (PostState V O)) (fresh : AreFresh readers posts) where
+    (held : HeldBySeed origin log writer readers consoles parts) (posts : List (PostState V O)) (fresh : AreFresh readers posts) where
   abbrev reader_of : PostState V O → ReaderState V Entry O
   reader_of post = post.reader
 

@@ -1,5 +1,5 @@
 -- Receipts of a log that goes on.
-use Rattle.std.proofs.Common.{◌≡◌, ℕ, ◌+◌, ◌≤◌, ◌⊎◌, inl, inr, List, [], ◌∷◌, ◌++◌, length, take, drop, true, cond, refl, ap, sym, subst, ◌∙◌, arith, ◌==◌}
+use Rattle.std.proofs.Common.{◌≡◌, ℕ, ◌+◌, ◌≤◌, inl, inr, List, [], ◌∷◌, ◌++◌, length, drop, cond, refl, ap, sym, subst, ◌∙◌, arith, ◌==◌}
 use Rattle.std.specs.List.{filter}
 use Rattle.std.proofs.lemmas.List.{take-append-drop}
 use Rattle.std.proofs.lemmas.List.Elements.{filter-append}
@@ -60,7 +60,7 @@ named_more console receipts xs ys named begins =
     let whole : xs ++ drop (length xs) ys ≡ ys = ap (λ (list : List Entry). list ++ drop (length xs) ys) (sym begins) ∙ take-append-drop (length xs) ys in
     subst (λ (log : List Entry). AreSomeOf receipts (receipts_in console log)) whole
     (subst (AreSomeOf receipts) (sym (receipts_in_both console xs (drop (length xs) ys)))
-        (some_more receipts (receipts_in console xs) (of_console console (receipts_after (length xs) (drop (length xs) ys))) named))
+    (some_more receipts (receipts_in console xs) (of_console console (receipts_after (length xs) (drop (length xs) ys))) named))
 
 -- and of one with one entry of their console more they name one more
 one_kept : (console : ℕ) (receipt : Receipt) → receipt.console ≡ console → of_console console (receipt ∷ []) ≡ receipt ∷ []

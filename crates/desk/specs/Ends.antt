@@ -1,5 +1,5 @@
 -- What contracts see of a room's seed, of its desk, of its posts and of a version that is prepared.
-use Rattle.std.specs.Prelude.{ℕ, ◌≡◌, ◌+◌, List, length, Option, Some, slice_get}
+use Rattle.std.specs.Prelude.{ℕ, ◌≡◌, ◌+◌, List, length, Some, slice_get}
 use Rattle.atomic_table.specs.Seated.{TableId}
 use Rattle.board.specs.Ends.{ReaderState}
 use Rattle.room_words.specs.declared.event.Entry.{Entry}

@@ -2,7 +2,7 @@
 use Rattle.std.specs.Prelude.{ℕ, ◌≡◌, ◌+◌, ◌<◌, ◌≤◌, List, [], length, Some, IfSome, All, map, slice_get}
 use Rattle.atomic_table.specs.Seated.{TableId}
 use Rattle.board.specs.Ends.{ReaderState, WriterState, newly_seated}
-use Rattle.desk.specs.Ends.{PostState, number_of}
+use Rattle.desk.specs.Ends.{PostState}
 use Rattle.desk.specs.Legal.{Judgement, IsLegal}
 use Rattle.desk.specs.Receipts.{AreSomeOf, receipts_in}
 use Rattle.room_words.specs.declared.event.Entry.{Entry}

@@ -127,9 +127,10 @@ impl<V: Advance + Send + Sync, N: RoomName> Desk<V, N> {
         ensures desk { self.new ≡ record { current = prepared.version; told = self.old.told + 1 } }
         ensures receipt { result ≡ receipt_of (length (V.log self.old.current)) prepared.entry }
         ensures post { post.new ≡ record {
-            reader = record post.old.reader { seen = V.log prepared.version };
-            receipts = post.old.receipts ++ result ∷ [];
-            room = post.old.room - 1 } }
+          reader = record post.old.reader { seen = V.log prepared.version };
+          receipts = post.old.receipts ++ result ∷ [];
+          room = post.old.room - 1;
+        } }
         ensures before { IsPrefix post.old.reader.seen (V.log self.old.current) }
         ensures origin { post.old.reader.origin ≡ Some (V.origin self.old.current) }
     {

@@ -30,11 +30,7 @@ impl<V: Advance + Send + Sync> Model for RoomSeed<V> {
 
 impl<V: Advance + Send + Sync> RoomSeed<V> {
     /// The seed of a room with 1 to 16 consoles, whose first version this is. It comes back where there is no memory.
-    pub fn make(
-        alloc: Global,
-        first: V,
-        consoles: u8,
-    ) -> Result<RoomSeed<V>, (NoMemory, V)>
+    pub fn make(alloc: Global, first: V, consoles: u8) -> Result<RoomSeed<V>, (NoMemory, V)>
         requires consoles { (0 < consoles) × (consoles ≤ 16) }
         requires empty { V.log first ≡ [] }
         ensures first { IfOk result (λ seed. seed.first ≡ first) }

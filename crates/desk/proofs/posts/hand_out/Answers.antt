@@ -1,4 +1,4 @@
-use Rattle.std.proofs.Common.{rules, arith, ◌≡◌, ◌<◌, ◌++◌, ◌∷◌, [], List, All, Some, IfSome, length, map, slice_get, refl, ap, sym, subst, ◌∙◌, append_assoc, length-append}
+use Rattle.std.proofs.Common.{rules, arith, ◌≡◌, ◌<◌, ◌++◌, ◌∷◌, [], List, All, Some, IfSome, length, map, slice_get, ap, sym, subst, ◌∙◌, append_assoc, length-append}
 use Rattle.std.proofs.lemmas.List.{map-append, length-map}
 use Rattle.std.proofs.lemmas.List.Elements.{All-push}
 use Rattle.desk.proofs.Queues.{first_off, all_taken, all_behind, get_behind}
@@ -57,8 +57,7 @@ loop-alloc-preserved g c =
     let pushed : c.push_reserved.new.self.items ≡ old ++ c.new.result ∷ [] = c.push_reserved.ensures.items in
     let readers : map (λ (post : State). post.reader) c.push_reserved.new.self.items ≡ done ++ x ∷ [] =
     ap (λ (xs : List State). map (λ (post : State). post.reader) xs) pushed ∙ map-append (λ (post : State). post.reader) old (c.new.result ∷ []) ∙ ap (λ (r : Seen). done ++ r ∷ []) c.new.ensures.0 in
-    let count : length c.loop-alloc.readers.items ≡ length (x ∷ rest) = ap length whole in
-    (
+    let count : length c.loop-alloc.readers.items ≡ length (x ∷ rest) = ap length whole in (
       i.0 ∙ ap (λ (xs : List Seen). done ++ xs) whole ∙ sym (append_assoc done (x ∷ []) rest) ∙ ap (λ (xs : List Seen). xs ++ rest) (sym readers),
       subst (All (λ (post : State). post.receipts ≡ [])) (sym pushed) (All-push (λ (post : State). post.receipts ≡ []) old c.new.result i.1 c.new.ensures.1),
       omega (arith, i.2, c.push_reserved.ensures.len),

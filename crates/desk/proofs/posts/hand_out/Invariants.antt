@@ -1,4 +1,4 @@
-use Rattle.std.proofs.Common.{◌≡◌, ◌≤◌, ◌++◌, [], List, All, length, map, vec_len, vec_capacity}
+use Rattle.std.proofs.Common.{◌≡◌, ◌++◌, [], All, length, map, vec_len, vec_capacity}
 use Rattle.desk.specs.Ends.{PostState}
 use Rattle.desk.proofs.posts.hand_out.Given as goal
 

@@ -1,4 +1,4 @@
-use Rattle.std.proofs.Common.{rules, arith, ◌≡◌, List, All, Some, length, ap, sym, subst, ◌∙◌}
+use Rattle.std.proofs.Common.{rules, ◌≡◌, All, Some, length, ap, sym, subst, ◌∙◌}
 use Rattle.std.specs.List.{sum_by}
 use Rattle.std.proofs.lemmas.List.Elements.{All-map, All-weaker}
 use Rattle.board.specs.Ends.{ReaderState}
@@ -18,7 +18,7 @@ close-requires-clause-board g c κs within =
     let P : Seen → Type 0 = λ reader. reader.board ≡ c.self.inside.writer.board in
     subst (All P) (sym c.gather-all.ensures.readers)
     (All-map P (λ (post : State). post.reader) c.args.posts.items
-        (All-weaker (λ (post : State). post.reader.board ≡ g.N.RoomName.board) (λ (post : State). P post.reader) (λ post is. is ∙ sym here) c.args.posts.items c.gather-all.ensures.board))
+    (All-weaker (λ (post : State). post.reader.board ≡ g.N.RoomName.board) (λ (post : State). P post.reader) (λ post is. is ∙ sym here) c.args.posts.items c.gather-all.ensures.board))
 
 pub returns-clause-legal : goal.returns-clause-legal
 returns-clause-legal g c =

@@ -6,11 +6,14 @@ use Rattle.desk.proofs.desk.Desk.commit.Goals as goal
 
 pub invariant_of-self : goal.invariant_of-self
 invariant_of-self g c =
-    let inside = c.self.inside in
-    (
+    let inside = c.self.inside in (
       desk_goes_on g.V.Advance.judges g.V.Dated.origin g.V.Dated.log g.N.RoomName.board g.N.RoomName.posts inside.writer inside.book.total c.self.invariant.0
-      c.args.prepared (search rules) c.note.new.self (search rules) c.add.new.self.total (search rules),
-      c.self.invariant.1, c.self.invariant.2, c.self.invariant.3, c.self.invariant.4, c.self.invariant.5,
+          c.args.prepared (search rules) c.note.new.self (search rules) c.add.new.self.total (search rules),
+      c.self.invariant.1,
+      c.self.invariant.2,
+      c.self.invariant.3,
+      c.self.invariant.4,
+      c.self.invariant.5,
     )
 
 pub invariant_of-post : goal.invariant_of-post

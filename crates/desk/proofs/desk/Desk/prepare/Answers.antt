@@ -1,4 +1,4 @@
-use Rattle.std.proofs.Common.{rules, Err, ap, ◌∙◌}
+use Rattle.std.proofs.Common.{rules}
 use Rattle.desk.proofs.desk.Desk.prepare.Goals as goal
 
 pub returns-in-Err-clause-refused : goal.returns-in-Err-clause-refused

@@ -1,4 +1,3 @@
-use Rattle.std.proofs.Common.{rules}
 use Rattle.desk.proofs.Holdings.{post_begins}
 use Rattle.desk.proofs.post.Post.new.Goals as goal
 
