@@ -3,3 +3,4 @@ pub mod Receipts
 pub mod Holdings
 pub mod Queues
 pub mod Counting
+pub mod Serials

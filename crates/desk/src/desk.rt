@@ -7,7 +7,7 @@ ghost use Rattle.desk.specs.Consoles.{IsConsole, next_serial};
 ghost use Rattle.desk.specs.Ends.{AreAllPosts, number_of};
 ghost use Rattle.desk.specs.Follows.{Follows};
 ghost use Rattle.desk.specs.Legal.{IsLegal};
-ghost use Rattle.desk.specs.Receipts.{receipts_in, receipt_of};
+ghost use Rattle.desk.specs.Receipts.{AreNumbered, receipt_of, receipts_in};
 ghost use Rattle.room_words.specs.declared.refused.Refused.{Refused};
 ghost use Rattle.room_words.specs.declared.refused.Denied.TheVariants as denied;
 
@@ -174,6 +174,7 @@ impl<V: Advance + Send + Sync, N: RoomName> Desk<V, N> {
         ensures seen { All (λ post. IsPrefix post.reader.seen (V.log self.current)) posts.items }
         ensures began { All (λ post. post.reader.origin ≡ Some (V.origin self.current)) posts.items }
         ensures receipts { All (λ post. post.receipts ≡ receipts_in (number_of post) (V.log self.current)) posts.items }
+        ensures serials { All (λ post. AreNumbered post.receipts) posts.items }
         ensures made { sum_by (λ post. length post.receipts) posts.items ≡ length (V.log self.current) }
     {
         let Desk {

@@ -4,9 +4,11 @@ use Rattle.std.proofs.lemmas.List.Elements.{All-map, All-weaker}
 use Rattle.board.specs.Ends.{ReaderState}
 use Rattle.board.specs.Lists.{IsPrefix}
 use Rattle.room_words.specs.declared.event.Entry.{Entry}
-use Rattle.desk.specs.Ends.{DeskState, PostState}
+use Rattle.desk.specs.Ends.{DeskState, PostState, number_of}
 use Rattle.desk.specs.Legal.{IsLegal}
 use Rattle.desk.proofs.Counting.{receipts_are_all, named_in_log}
+use Rattle.desk.proofs.Serials.{legal_numbered}
+use Rattle.desk.specs.Receipts.{AreNumbered, receipts_in}
 use Rattle.desk.proofs.Queues.{all_of_map}
 use Rattle.desk.proofs.desk.Desk.close.Goals as goal
 
@@ -53,3 +55,11 @@ returns-clause-receipts g c =
     sym c.gather-all.ensures.amount ∙ c.audit.ensures.whole (c.gather-all.ensures.parts ∙ c.requires.all.count ∙ c.requires.room)
     ∙ c.self.invariant.0.counted ∙ ap (λ (desk : DeskState g.row.V.Denot). length (g.V.Dated.log desk.current)) c.self.view_is in
     receipts_are_all g.N.RoomName.posts log c.args.posts.items c.requires.all (named_in_log log c.args.posts.items c.gather-all.ensures.named (returns-clause-seen g c)) made
+
+pub returns-clause-serials : goal.returns-clause-serials
+returns-clause-serials g c =
+    let State : Type 0 = PostState g.row.V.Denot g.row.V-Origin.Denot in
+    let log = g.V.Dated.log c.args.self.current in
+    All-weaker (λ (post : State). post.receipts ≡ receipts_in (number_of post) log) (λ (post : State). AreNumbered post.receipts)
+    (λ post is. subst AreNumbered (sym is) (legal_numbered (g.V.Advance.judges (g.V.Dated.origin c.args.self.current)) (number_of post) log (returns-clause-legal g c)))
+    c.args.posts.items (returns-clause-receipts g c)
