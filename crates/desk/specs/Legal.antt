@@ -1,5 +1,5 @@
 -- Legal histories, of this project: each entry is accepted after those before it.
-use Rattle.std.specs.Prelude.{ℕ, ◌≡◌, List, ◌∷◌, ◌++◌, Option, None}
+use Rattle.std.specs.Prelude.{◌≡◌, List, ◌∷◌, ◌++◌, Option, None}
 use Rattle.desk.specs.Consoles.{IsConsole, next_serial}
 use Rattle.room_words.specs.declared.event.Entry.{Entry}
 use Rattle.room_words.specs.declared.event.Event.{Event}
