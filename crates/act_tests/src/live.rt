@@ -57,25 +57,22 @@ impl Live {
         })
     }
 
-    /// The network after an order, or why it is refused.
-    pub(crate) fn after(&self, alloc: Global, act: &Act) -> Result<Live, ActDenied> {
+    /// Changes the network by an order, or says why it is refused.
+    pub(crate) fn act(&mut self, alloc: Global, act: &Act) -> Result<(), ActDenied> {
         accepted_acts_stand();
-        let overlay = judge(alloc, &self.index, &self.overlay, act)?;
-        let old = &self.overlay;
+        let new = judge(alloc, &self.index, &self.overlay, act)?;
         let graph = patched::<Brand>(
             alloc,
             &self.graph,
             &self.index,
-            old,
-            &overlay,
+            &self.overlay,
+            &new,
             act,
             Blank::new(1),
         )?;
-        Ok(Live {
-            index: self.index.share()?,
-            overlay,
-            graph,
-        })
+        self.overlay = new;
+        self.graph = graph;
+        Ok(())
     }
 
     /// The graph of the network from nothing.

@@ -214,6 +214,33 @@ fn is_as_rebuilt(alloc: Global, live: &Live, places: &[Anchor]) -> Result<bool, 
     Ok(are_same(live.graph(), &rebuilt, places))
 }
 
+/// Gives an order, and says whether a share of the graph before it keeps what it held.
+fn keeps_the_graph_before(
+    alloc: Global,
+    live: &mut Live,
+    act: &Act,
+    places: &[Anchor],
+) -> Result<bool, ActDenied> {
+    let rebuilt = live.rebuilt(alloc)?;
+    let shared = live.graph().share()?;
+    live.act(alloc, act)?;
+    Ok(are_same(&shared, &rebuilt, places))
+}
+
+/// Whether what stands on the network stands there, the graph is the one made from nothing, and traces are those of the plain program.
+fn is_right(
+    alloc: Global,
+    live: &Live,
+    plain: &Plain,
+    places: &[Anchor],
+) -> Result<bool, NoMemory> {
+    Ok(
+        overlay_stands(live.index(), live.overlay())
+            && is_as_rebuilt(alloc, live, places)?
+            && are_traced(alloc, live.graph(), plain)?,
+    )
+}
+
 /// How many of the fourteen refusals came: a bit for each but Crowded and Full, for which the network is too small.
 fn bit_of(why: ActRefusal) -> u16 {
     match why {
@@ -239,6 +266,37 @@ fn is_same(overlay: &Overlay, plain: &Plain) -> bool {
         && overlay.positions.as_slice() == plain.positions.as_slice()
 }
 
+/// Gives so many orders, and answers which refusals came.
+fn play(
+    rt: &impl Abort,
+    alloc: Global,
+    live: &mut Live,
+    plain: &mut Plain,
+    places: &[Anchor],
+) -> Result<u16, Fail> {
+    let mut random = Random { state: 14 };
+    let mut came = 0_u16;
+    for number in 0..ACTS {
+        let act = random.act();
+        let want = plain.refusal(alloc, &act)?;
+        match keeps_the_graph_before(alloc, live, &act, places) {
+            Ok(is_kept) => {
+                assert!(rt; want.is_none(), "act {number} is refused");
+                assert!(rt; is_kept, "before act {number}");
+                plain.act(&act)?;
+                assert!(rt; is_right(alloc, live, plain, places)?, "after act {number}");
+            }
+            Err(ActDenied::Refusal(why)) => {
+                assert!(rt; want == Some(why), "act {number} has another refusal");
+                came |= bit_of(why);
+            }
+            Err(ActDenied::NoMemory) => return Err(NoMemory.into()),
+        }
+        assert!(rt; is_same(live.overlay(), plain), "after act {number}");
+    }
+    Ok(came)
+}
+
 #[test]
 fn answers_as_the_plain_program(rt: HostRuntime) -> Result<(), Fail> {
     let alloc = rt.alloc();
@@ -248,40 +306,7 @@ fn answers_as_the_plain_program(rt: HostRuntime) -> Result<(), Fail> {
         items: Vec::new(alloc),
         positions: Vec::new(alloc),
     };
-    let mut random = Random { state: 14 };
-    let mut came = 0_u16;
-    for number in 0..ACTS {
-        let act = random.act();
-        let want = plain.refusal(alloc, &act)?;
-        match live.after(alloc, &act) {
-            Ok(new) => {
-                assert!(rt; want.is_none(), "act {number} is refused");
-                plain.act(&act)?;
-                assert!(rt; is_as_rebuilt(alloc, &new, &places)?, "after act {number}");
-                assert!(rt;
-                    is_as_rebuilt(alloc, &live, &places)?,
-                    "before act {number}"
-                );
-                live = new;
-            }
-            Err(ActDenied::Refusal(why)) => {
-                assert!(rt; want == Some(why), "act {number} has another refusal");
-                came |= bit_of(why);
-            }
-            Err(ActDenied::NoMemory) => return Err(NoMemory.into()),
-        }
-        assert!(rt; is_same(live.overlay(), &plain), "after act {number}");
-        if want.is_none() {
-            assert!(rt;
-                overlay_stands(live.index(), live.overlay()),
-                "after act {number}"
-            );
-            assert!(rt;
-                are_traced(alloc, live.graph(), &plain)?,
-                "after act {number}"
-            );
-        }
-    }
+    let came = play(&rt, alloc, &mut live, &mut plain, &places)?;
     assert!(rt; came == 4095, "{came}");
     Ok(())
 }

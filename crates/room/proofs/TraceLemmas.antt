@@ -1,5 +1,5 @@
 -- From the walks through the graph of a base to its trace.
-use Rattle.std.proofs.Common.{◌≡◌, ◌↔◌, ℕ, List, true, false, Option, Some, None, refl}
+use Rattle.std.proofs.Common.{◌≡◌, ◌↔◌, ℕ, List, true, false, Option, Some, None, Result, Ok, Err, IfErr, IsErrAnd, refl, sym, subst}
 use Rattle.cim_words.specs.declared.phases.Phase.{Phase}
 use Rattle.cim_words.specs.declared.phases.PhaseSet.{PhaseSet}
 use Rattle.cim_words.specs.declared.statement.Statement.{Statement}
@@ -9,6 +9,10 @@ use Rattle.cim_model.specs.Trace.{IsTrace, Row}
 use Rattle.graph_pages.specs.Graph.{GraphView, star_of}
 use Rattle.graph_pages.specs.declared.star.Star.{Star}
 use Rattle.link_rules.specs.Map.{IsMap, IsStarAt}
+use Rattle.room.specs.Refusal.{IfRefusal}
+use Rattle.room.specs.declared.refusal.Failure.{Failure}
+use Rattle.room.specs.declared.refusal.Failure.TheVariants as failure
+use Rattle.room.specs.declared.refusal.TaskRefusal.{TaskRefusal}
 use Rattle.room_words.specs.Overlay.{no_overlay}
 
 -- a trace of one wiring is one of another, where both reach the same
@@ -35,3 +39,8 @@ starred m x (Some found) here some = here.0
 
 pub a_star : (m : List Statement) (g : GraphView) (x : ℕ) → IsMap m no_overlay g → (star_of g x ≡ None → ⊥) → is_equipment m x ≡ true
 a_star m g x entries some = starred m x (star_of g x) (entries.stars x) some
+
+-- want of memory is no refusal
+pub without_memory : {A : Type 0} (r : Result A (Failure TaskRefusal)) (P : TaskRefusal → Type 0) → IsErrAnd r (λ e. e ≡ failure.NoMemory) → IfErr r (λ e. IfRefusal e P)
+without_memory (Ok a) P is = absurd is
+without_memory (Err e) P is = subst (λ (f : Failure TaskRefusal). IfRefusal f P) (sym is) tt
