@@ -1,11 +1,11 @@
 -- The receipts of all consoles: where they are as many as the entries of the log, they are these, each once.
-use Rattle.std.proofs.Common.{◌≡◌, ℕ, suc, ◌+◌, ◌<◌, ◌≤◌, List, [], ◌∷◌, length, Bool, true, false, cond, All, Some, slice_get, refl, ap, arith, rules, ◌==◌}
+use Rattle.std.proofs.Common.{◌≡◌, ℕ, suc, ◌+◌, ◌<◌, ◌≤◌, List, [], ◌∷◌, length, Bool, true, false, cond, All, Some, slice_get, refl, arith, rules, ◌==◌}
 use mathlib.Core.Logic.{dite}
 use native.Mathlib.Decide.{ℕ_discrete}
 use Rattle.std.specs.List.{filter, sum_by}
 use Rattle.std.proofs.lemmas.List.Elements.{All-head, All-tail, All-cons, All-nil}
 use Rattle.std.proofs.lemmas.List.Sums.{sum_by-cons}
-use Rattle.desk.proofs.Receipts.{some_length, some_all, named_more}
+use Rattle.desk.proofs.Receipts.{named_more, receipts_length, some_all, some_length}
 use Rattle.board.specs.Lists.{IsPrefix}
 use Rattle.desk.specs.Ends.{PostState, number_of, AreAllPosts}
 use Rattle.desk.specs.Receipts.{AreSomeOf, receipts_after, receipts_in}
@@ -31,10 +31,6 @@ module _ {X : Type 0} (f g : X → ℕ) where
       All-cons (λ (y : X). g y ≤ f y) x xs
       (omega (arith, tight, rest, sum_by-cons f x xs, sum_by-cons g x xs))
       (sums_tight xs others (omega (arith, tight, first, sum_by-cons f x xs, sum_by-cons g x xs)))
-
-after_length : (before : ℕ) (log : List Entry) → length (receipts_after before log) ≡ length log
-after_length before [] = refl
-after_length before (entry ∷ log) = ap suc (after_length (before + 1) log)
 
 one_test : (m n : ℕ) → (m ≡ n → ⊥) → cond {A = ℕ} (m == n) 1 0 ≡ 0
 one_test m n differ = tested (m == n) refl
@@ -134,7 +130,7 @@ module _ {V O : Type 0} where
   receipts_are_all consoles log posts all named made =
       let order : InOrder 1 posts = λ index post is. let e = all.order index post is in omega (arith, e) in
       let few = theirs_all (receipts_after 0 log) 1 posts order in
-      let count = after_length 0 log in
+      let count = receipts_length log in
       all_equal log posts named
       (sums_tight (λ (post : PostState V O). length post.receipts) (theirs (receipts_after 0 log)) posts (all_named log posts named) (omega (arith, few, count, made)))
 

@@ -1,5 +1,5 @@
 -- What desks and posts hold after a step.
-use Rattle.std.proofs.Common.{◌≡◌, ℕ, ◌+◌, ◌<◌, ◌≤◌, List, [], ◌∷◌, ◌++◌, length, Some, ap, sym, subst, ◌∙◌, arith, length-append, Bool, cond, nat_le, true, take, slice_get, IfSome}
+use Rattle.std.proofs.Common.{◌≡◌, ℕ, ◌+◌, ◌<◌, ◌≤◌, List, [], ◌∷◌, ◌++◌, length, Some, ap, sym, subst, ◌∙◌, arith, length-append, Bool, cond, nat_le, true, take, slice_get, IfSome, ◌^◌}
 use Rattle.std.proofs.lemmas.Bool.Decides.{nat_tests}
 use Rattle.std.proofs.lemmas.List.{length-take, length-map}
 use Rattle.atomic_table.specs.Seated.{TableId}
@@ -7,7 +7,8 @@ use Rattle.board.specs.Ends.{ReaderState, WriterState, newly_seated}
 use Rattle.board.specs.Lists.{IsPrefix, longer}
 use Rattle.desk.proofs.Legal.{legal_empty, legal_grows}
 use Rattle.desk.proofs.Queues.{get_map, get_mapped, get_within}
-use Rattle.desk.proofs.Receipts.{named_more, named_last, none_of}
+use Rattle.desk.proofs.Receipts.{named_few, named_last, named_more, none_of}
+use Rattle.desk.specs.Consoles.{IsConsole}
 use Rattle.desk.specs.Ends.{PreparedState, PostState, AreAllPosts}
 use Rattle.desk.specs.Follows.{Follows}
 use Rattle.desk.specs.Held.{HeldByDesk, HeldByPost, HeldBySeed, AreFresh}
@@ -38,13 +39,15 @@ receipt_is log longer entry console serial number more of_console of_serial coun
 
 module _ {V O : Type 0} (board : TableId) (reader : ReaderState V Entry O) (receipts : List Receipt) (console parts amount : ℕ) where
   -- a post without receipts
-  pub post_begins : reader.board ≡ board → console ≡ reader.console + 1 → parts ≡ 1 → amount ≡ 0 → receipts ≡ [] → HeldByPost board reader receipts console parts amount
-  post_begins here is one none empty =
+  pub post_begins : reader.board ≡ board → console ≡ reader.console + 1 → IsConsole console → parts ≡ 1 → amount ≡ 0 → receipts ≡ [] → HeldByPost board reader receipts console parts amount
+  post_begins here is range one none empty =
       record {
         board_is = here;
         console_is = is;
+        in_range = range;
         one_part = one;
         counted = none ∙ ap length (sym empty);
+        few = let count : length receipts ≡ 0 = ap length empty in omega (arith, count);
         named = subst (λ (list : List Receipt). AreSomeOf list (receipts_in console reader.seen)) (sym empty) (none_of (receipts_in console reader.seen));
       }
 
@@ -55,21 +58,27 @@ module _ {V O : Type 0} (board : TableId) (reader : ReaderState V Entry O) (rece
       record {
         board_is = same_board ∙ held.board_is;
         console_is = held.console_is ∙ ap (λ (n : ℕ). n + 1) (sym same_console);
+        in_range = held.in_range;
         one_part = held.one_part;
         counted = held.counted;
+        few = held.few;
         named = named_more console receipts reader.seen after.seen held.named begins;
       }
 
   -- a post that got a receipt
-  pub post_gains : HeldByPost board reader receipts console parts amount → (log : List Entry) (entry : Entry) → IsPrefix reader.seen log → entry.console ≡ console
+  pub post_gains : HeldByPost board reader receipts console parts amount → (log : List Entry) (entry : Entry) → IsPrefix reader.seen log → length log + 1 < 2 ^ 32 → entry.console ≡ console
       → (after : ReaderState V Entry O) → after.board ≡ reader.board → after.console ≡ reader.console → after.seen ≡ log ++ entry ∷ []
       → (more : List Receipt) → more ≡ receipts ++ receipt_of (length log) entry ∷ []
       → (parts_after amount_after : ℕ) → parts_after ≡ parts → amount_after ≡ amount + 1 → HeldByPost board after more console parts_after amount_after
-  post_gains held log entry begins its after same_board same_console seen more longer parts_after amount_after same_parts one_more =
+  post_gains held log entry begins bound its after same_board same_console seen more longer parts_after amount_after same_parts one_more =
       record {
         board_is = same_board ∙ held.board_is;
         console_is = held.console_is ∙ ap (λ (n : ℕ). n + 1) (sym same_console);
+        in_range = held.in_range;
         one_part = same_parts ∙ held.one_part;
+        few = let count : length more ≡ length (receipts ++ receipt_of (length log) entry ∷ []) = ap length longer in
+            let most = named_few console receipts log (named_more console receipts reader.seen log held.named begins) in
+            omega (arith, bound, most, count, length-append receipts (receipt_of (length log) entry ∷ []));
         counted = let count : length more ≡ length (receipts ++ receipt_of (length log) entry ∷ []) = ap length longer in omega (arith, one_more, held.counted, count, length-append receipts (receipt_of (length log) entry ∷ []));
         named = subst (λ (list : List Entry). AreSomeOf more (receipts_in console list)) (sym seen)
             (subst (λ (list : List Receipt). AreSomeOf list (receipts_in console (log ++ entry ∷ []))) (sym longer)

@@ -1,8 +1,9 @@
 -- Receipts of a log that goes on.
-use Rattle.std.proofs.Common.{◌≡◌, ℕ, ◌+◌, ◌≤◌, inl, inr, List, [], ◌∷◌, ◌++◌, length, drop, cond, refl, ap, sym, subst, ◌∙◌, arith, ◌==◌}
+use Rattle.std.proofs.Common.{◌≡◌, ℕ, ◌+◌, ◌≤◌, inl, inr, List, [], ◌∷◌, ◌++◌, length, drop, cond, refl, ap, sym, subst, ◌∙◌, arith, ◌==◌, Bool, not, suc}
 use Rattle.std.specs.List.{filter}
 use Rattle.std.proofs.lemmas.List.{take-append-drop}
 use Rattle.std.proofs.lemmas.List.Elements.{filter-append}
+use Rattle.std.proofs.lemmas.List.Filters.{length-filter_both}
 use Rattle.board.specs.Lists.{IsPrefix}
 use Rattle.desk.specs.Receipts.{receipt_of, receipts_after, receipts_in, AreSomeOf}
 use Rattle.plain_laws.proofs.Numbers.{equal_itself}
@@ -72,3 +73,18 @@ named_last console receipts log entry named is =
     subst (AreSomeOf (receipts ++ receipt_of (length log) entry ∷ []))
     (sym (receipts_in_both console log (entry ∷ []) ∙ ap (λ (list : List Receipt). receipts_in console log ++ list) (one_kept console (receipt_of (length log) entry) is)))
     (some_last receipts (receipts_in console log) (receipt_of (length log) entry) named)
+
+-- receipts are no more than the entries of the log
+after_length : (before : ℕ) (log : List Entry) → length (receipts_after before log) ≡ length log
+after_length before [] = refl
+after_length before (entry ∷ log) = ap suc (after_length (before + 1) log)
+
+pub receipts_length : (log : List Entry) → length (receipts_after 0 log) ≡ length log
+receipts_length log = after_length 0 log
+
+pub named_few : (console : ℕ) (receipts : List Receipt) (log : List Entry) → AreSomeOf receipts (receipts_in console log) → length receipts ≤ length log
+named_few console receipts log named =
+    let some = some_length receipts (receipts_in console log) named in
+    let test : Receipt → Bool = λ receipt. receipt.console == console in
+    let passing = length-filter_both test (λ receipt. not (test receipt)) (λ _. refl) (receipts_after 0 log) in
+    omega (arith, some, passing, receipts_length log)

@@ -1,7 +1,8 @@
 -- What the parts of a room say of one another while they are apart.
-use Rattle.std.specs.Prelude.{ℕ, ◌≡◌, ◌+◌, ◌<◌, ◌≤◌, List, [], length, Some, IfSome, All, map, slice_get}
+use Rattle.std.specs.Prelude.{ℕ, ◌≡◌, ◌+◌, ◌^◌, ◌<◌, ◌≤◌, List, [], length, Some, IfSome, All, map, slice_get}
 use Rattle.atomic_table.specs.Seated.{TableId}
 use Rattle.board.specs.Ends.{ReaderState, WriterState, newly_seated}
+use Rattle.desk.specs.Consoles.{IsConsole}
 use Rattle.desk.specs.Ends.{PostState}
 use Rattle.desk.specs.Legal.{Judgement, IsLegal}
 use Rattle.desk.specs.Receipts.{AreSomeOf, receipts_in}
@@ -33,8 +34,10 @@ pub record HeldByDesk {V O : Type 0} (judges : O → Judgement) (origin : V → 
 pub record HeldByPost {V O : Type 0} (board : TableId) (reader : ReaderState V Entry O) (receipts : List Receipt) (console parts amount : ℕ) : Type 0 where
   pub board_is : reader.board ≡ board
   pub console_is : console ≡ reader.console + 1
+  pub in_range : IsConsole console
   pub one_part : parts ≡ 1
   pub counted : amount ≡ length receipts
+  pub few : length receipts < 2 ^ 32
   pub named : AreSomeOf receipts (receipts_in console reader.seen)
 
 -- readers that stand in the order of their consoles

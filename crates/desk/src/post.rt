@@ -1,6 +1,7 @@
 //! The post of one console at the desk.
 ghost use Rattle.std.specs.Prelude.{◌≡◌, ◌+◌, ◌-◌, ◌^◌, ◌<◌, ◌≤◌, ◌++◌, ◌∷◌, [], List, length, Some, OnOk, ℕ};
 ghost use Rattle.board.specs.Lists.{IsPrefix};
+ghost use Rattle.desk.specs.Consoles.{IsConsole};
 ghost use Rattle.desk.specs.Ends.{number_of};
 ghost use Rattle.desk.specs.Receipts.{AreSomeOf, receipts_in};
 
@@ -45,6 +46,7 @@ impl<V: Advance + Send + Sync, N: RoomName> Post<V, N> {
     pub(crate) fn new(alloc: Global, console: u8, reader: Reader<V>, share: Share<N>) -> Post<V, N>
         requires board { reader.board ≡ N.board }
         requires console { console ≡ reader.console + 1 }
+        requires range { IsConsole console }
         requires share { (share.parts ≡ 1) × (share.amount ≡ 0) }
         ensures { (result.reader ≡ reader) × (result.receipts ≡ []) }
     {
@@ -58,9 +60,17 @@ impl<V: Advance + Send + Sync, N: RoomName> Post<V, N> {
 
     /// The number of its console, from 1.
     pub fn console(&self) -> u8
-        ensures { result ≡ number_of self.now }
+        ensures number { result ≡ number_of self.now }
+        ensures range { IsConsole result }
     {
         self.console
+    }
+
+    /// How many receipts it has.
+    pub fn made(&self) -> u32
+        ensures { result ≡ length self.now.receipts }
+    {
+        self.receipts.len() as u32
     }
 
     /// Its receipts, in their order. Each names an entry that it has seen.

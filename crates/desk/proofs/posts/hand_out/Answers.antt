@@ -33,6 +33,17 @@ new-requires-clause-console g c =
     let console : c.loop-alloc.console ≡ length c.loop-alloc.posts.items = search rules in
     omega (arith, at, console, length-map c.loop-alloc.posts.items (λ (post : State). post.reader))
 
+pub new-requires-clause-range : goal.new-requires-clause-range
+new-requires-clause-range g c κs within =
+    let State : Type 0 = PostState g.row.V.Denot g.row.V-Origin.Denot in
+    let Seen : Type 0 = ReaderState g.row.V.Denot Entry g.row.V-Origin.Denot in
+    let done : List Seen = map (λ (post : State). post.reader) c.loop-alloc.posts.items in
+    let i = c.loop-alloc.invariant in
+    let count : length c.args.readers.items ≡ length (done ++ c.loop-alloc.readers.items) = ap length i.0 in
+    let some : 0 < length c.loop-alloc.readers.items = search rules in
+    let console : c.loop-alloc.console ≡ length c.loop-alloc.posts.items = search rules in
+    (omega arith, omega (arith, count, some, console, c.requires.few, length-append done c.loop-alloc.readers.items, length-map c.loop-alloc.posts.items (λ (post : State). post.reader)))
+
 pub push_reserved-requires : goal.push_reserved-requires
 push_reserved-requires g c =
     let State : Type 0 = PostState g.row.V.Denot g.row.V-Origin.Denot in

@@ -1,6 +1,7 @@
-use Rattle.std.proofs.Common.{rules, ◌≡◌, ◌++◌, ◌∷◌, [], List, ap, ◌∙◌}
+use Rattle.std.proofs.Common.{rules, ◌≡◌, ◌++◌, ◌∷◌, [], List, ap, ◌∙◌, arith, length, ◌+◌, ◌<◌, ◌^◌}
 use Rattle.board.specs.Lists.{IsPrefix, longer}
 use Rattle.room_words.specs.declared.event.Entry.{Entry}
+use Rattle.room_words.specs.declared.receipt.Receipt.{Receipt}
 use Rattle.desk.proofs.Holdings.{post_gains, desk_goes_on, receipt_is, told_is_longer}
 use Rattle.desk.proofs.desk.Desk.commit.Goals as goal
 
@@ -27,6 +28,8 @@ invariant_of-post g c =
     let learnt : c.learn.new.self.seen ≡ longer inside.reader.seen after = search rules in
     let seen : c.learn.new.self.seen ≡ before ++ entry ∷ [] = learnt ∙ ap (λ (log : List Entry). longer inside.reader.seen log) grown ∙ told_is_longer inside.reader.seen before (entry ∷ []) begins in
     let receipt = receipt_is before after entry c.prepared.inside.console c.prepared.inside.serial c.prepared.inside.number grown (search rules) (search rules) (search rules) in
+    let narrow : c.prepared.inside.number < 2 ^ 32 = search rules in
+    let count : c.prepared.inside.number ≡ length before + 1 = ap (λ (r : Receipt). r.number) receipt in
     post_gains g.N.RoomName.board inside.reader inside.receipts.items inside.console inside.share.parts inside.share.amount c.post.invariant
-    before entry begins (search rules) c.learn.new.self (search rules) (search rules) seen
+    before entry begins (omega (arith, narrow, count)) (search rules) c.learn.new.self (search rules) (search rules) seen
     c.push_reserved.new.self.items (c.push_reserved.ensures.items ∙ ap (λ one. inside.receipts.items ++ one ∷ []) receipt) c.add.new.share.parts c.add.new.share.amount (search rules) (search rules)
