@@ -1,0 +1,4 @@
+mod Beginnings
+mod Entries
+mod Submitted
+mod NewPosts

@@ -7,7 +7,7 @@ ghost use Rattle.room_console.specs.Submits.{LooksOnce, IsEntered, IsRefused};
 ghost use Rattle.room_words.specs.declared.refused.Refused.{Refused};
 ghost use Rattle.room_words.specs.declared.refused.Denied.TheVariants as denied;
 
-use crate::entering::enter;
+use crate::entering::{enter, seen_after};
 use crate::room::Room;
 use desk::{Advance, Post, RoomName};
 use room_words::{Denied, Entry, Event, Receipt};
@@ -24,8 +24,6 @@ pub struct Console<V: Advance + Send + Sync, N: RoomName> {
     pub(crate) post: Post<V, N>,
     /// How many entries it has seen.
     pub(crate) seen: u32,
-    /// How many receipts it has.
-    pub(crate) made: u32,
 }
 
 impl<V: Advance + Send + Sync, N: RoomName> Model for Console<V, N> {
@@ -37,7 +35,7 @@ impl<V: Advance + Send + Sync, N: RoomName> Model for Console<V, N> {
 
     ghost view = { λ c. c.post };
 
-    ghost invariant = { λ c. IsConsole (number_of c.post) × (c.seen ≡ length c.post.reader.seen) × (c.made ≡ length c.post.receipts) × (c.made ≤ c.seen) };
+    ghost invariant = { λ c. IsConsole (number_of c.post) × (c.seen ≡ length c.post.reader.seen) × (length c.post.receipts ≤ c.seen) };
 }
 
 impl<V: Advance + Send + Sync, N: RoomName> Console<V, N> {
@@ -54,11 +52,7 @@ impl<V: Advance + Send + Sync, N: RoomName> Console<V, N> {
         requires fresh { (post.reader.seen ≡ []) × (post.receipts ≡ []) }
         ensures { result ≡ post }
     {
-        Console {
-            post,
-            seen: 0,
-            made: 0,
-        }
+        Console { post, seen: 0 }
     }
 
     /// Submits an event: looks once, then takes the desk's lock, has the event judged on the newest version, and enters it or is told all that was entered. Nothing is refused for want of memory once the event is accepted.
@@ -91,20 +85,8 @@ impl<V: Advance + Send + Sync, N: RoomName> Console<V, N> {
             &mut entry,
             steps,
         );
-        self.note(answer);
+        self.seen = seen_after(self.seen, answer);
         answer
-    }
-
-    /// Keeps the numbers of what an answer leaves.
-    fn note(&mut self, answer: Result<Receipt, Denied>) {
-        match answer {
-            Ok(receipt) => {
-                self.seen = receipt.number;
-                self.made += 1;
-            }
-            Err(Denied::Refused(refused)) => self.seen = refused.at,
-            Err(Denied::NoMemory) => {}
-        }
     }
 
     /// Looks at what is newest. It waits for nobody, and takes no lock and no memory.
@@ -145,7 +127,7 @@ impl<V: Advance + Send + Sync, N: RoomName> Console<V, N> {
     pub fn made(&self) -> u32
         ensures { result ≡ length self.now.receipts }
     {
-        self.made
+        self.post.receipts().len() as u32
     }
 
     /// How often it has looked; each submit looks once.
@@ -167,11 +149,7 @@ impl<V: Advance + Send + Sync, N: RoomName> Console<V, N> {
     pub(crate) fn into_post(self) -> Post<V, N>
         ensures { result ≡ self }
     {
-        let Console {
-            post,
-            seen: _,
-            made: _,
-        } = self;
+        let Console { post, seen: _ } = self;
         post
     }
 }

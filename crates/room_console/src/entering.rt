@@ -41,3 +41,16 @@ pub(crate) fn enter<V: Advance + Send + Sync, N: RoomName, L: Ledger>(
         Err(Denied::NoMemory) => Err(Denied::NoMemory),
     }
 }
+
+/// How many entries a console has seen, where it had seen so many before its answer.
+pub(crate) fn seen_after(seen: u32, answer: Result<Receipt, Denied>) -> u32
+    ensures entered { IfOk answer (λ receipt. result ≡ receipt.number) }
+    ensures refused { (why : Refused) → answer ≡ Err (denied.Refused why) → result ≡ why.at }
+    ensures memory { answer ≡ Err denied.NoMemory → result ≡ seen }
+{
+    match answer {
+        Ok(receipt) => receipt.number,
+        Err(Denied::Refused(refused)) => refused.at,
+        Err(Denied::NoMemory) => seen,
+    }
+}

@@ -19,7 +19,7 @@ pub struct Room<V: Advance + Send + Sync, N: RoomName> {
 }
 
 impl<V: Advance + Send + Sync, N: RoomName> Model for Room<V, N> {
-    ghost use Rattle.std.specs.Prelude.{◌≡◌, ◌≤◌, [], vec_capacity, ⊤, tt};
+    ghost use Rattle.std.specs.Prelude.{◌≡◌, ◌≤◌, [], vec_capacity, ⊤};
 
     ghost Value = { ⊤ };
 
