@@ -9,10 +9,10 @@ use Rattle.plain_laws.proofs.Numbers.{equal_itself}
 use Rattle.room_words.specs.declared.event.Entry.{Entry}
 
 -- what stands before an item of a list, and what after it
-parted : {X : Type 0} (xs : List X) (x : X) → Among xs x → (before after : List X) × (xs ≡ before ++ x ∷ after)
+parted : {X : Type 0} (xs : List X) (x : X) → Among xs x → (before : List X) × (after : List X) × (xs ≡ before ++ x ∷ after)
 parted [] x there = absurd there
 parted (y ∷ ys) x (inl is) = ([], ys, ap (λ (first : _). first ∷ ys) is)
-parted (y ∷ ys) x (inr there) = let rest = parted ys x there in (y ∷ rest.0, rest.1.0, ap (λ (others : List _). y ∷ others) rest.1.1)
+parted (y ∷ ys) x (inr there) = let rest = parted ys x there in (y ∷ rest.0, rest.1, ap (λ (others : List _). y ∷ others) rest.2)
 
 -- with an entry of its own a console has more of them
 more_entries : (before after : List Entry) (entry : Entry) → length (entries_of entry.console before) < length (entries_of entry.console (before ++ entry ∷ after))
@@ -28,9 +28,9 @@ more_entries before after entry =
 pub has_not_stood : (judges : Judgement) (log : List Entry) (entry : Entry) → IsLegal judges log → IsNext judges log entry → Contains log entry → ⊥
 has_not_stood judges log entry legal next there =
     let parts = parted log entry (among_contained log entry there) in
-    let earlier = legal parts.0 entry parts.1.0 parts.1.1 in
-    let more = more_entries parts.0 parts.1.0 entry in
-    let whole : length (entries_of entry.console log) ≡ length (entries_of entry.console (parts.0 ++ entry ∷ parts.1.0)) = ap (λ (list : List Entry). length (entries_of entry.console list)) parts.1.1 in
+    let earlier = legal parts.0 entry parts.1 parts.2 in
+    let more = more_entries parts.0 parts.1 entry in
+    let whole : length (entries_of entry.console log) ≡ length (entries_of entry.console (parts.0 ++ entry ∷ parts.1)) = ap (λ (list : List Entry). length (entries_of entry.console list)) parts.2 in
     let first : entry.serial ≡ length (entries_of entry.console parts.0) + 1 = earlier.serial in
     let last : entry.serial ≡ length (entries_of entry.console log) + 1 = next.serial in
     omega (arith, more, whole, first, last)

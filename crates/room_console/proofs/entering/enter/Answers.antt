@@ -1,4 +1,4 @@
-use Rattle.std.proofs.Common.{rules, ℕ, ◌≡◌, Err, ap, sym, subst, ◌∙◌}
+use Rattle.std.proofs.Common.{rules, ℕ, ◌≡◌, ◌+◌, Err, ap, sym, subst, ◌∙◌}
 use Rattle.room_console.proofs.Submitted.{entered, refused_there}
 use Rattle.room_console.specs.Submits.{IsRefused, entry_of}
 use Rattle.room_words.specs.declared.refused.Refused.{Refused}
