@@ -2,3 +2,4 @@ mod Beginnings
 mod Entries
 mod Submitted
 mod NewPosts
+mod Emptied
