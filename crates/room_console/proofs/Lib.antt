@@ -2,4 +2,5 @@ mod Beginnings
 mod Entries
 mod Submitted
 mod NewPosts
+mod Closed
 mod Emptied
