@@ -107,6 +107,10 @@ module _ {V O : Type 0} (judges : O → Judgement) where
       let now : new ≡ old = same refl in
       subst (λ (post : PostState V O). (new ≡ length post.reader.seen) × (length post.receipts ≤ new)) (sym (leaves refl)) (now ∙ sees, omega (arith, now, few))
 
+pub if_ok_with : {X E : Type 0} {P Q : X → Type 0} (answer : Result X E) → ((x : X) → P x → Q x) → IfOk answer P → IfOk answer Q
+if_ok_with (Ok x) both is = both x is
+if_ok_with (Err e) both is = tt
+
 module _ {V O : Type 0} where
   -- one look, after which more was seen
   pub looks_more : (before between after : PostState V O) → LooksOnce before between → after.reader.founds ≡ between.reader.founds → IsPrefix between.reader.seen after.reader.seen
@@ -124,3 +128,9 @@ module _ {V O : Type 0} where
         console = console ∙ look.console;
         origin = origin ∙ look.origin;
       }
+
+  -- one look, after which only the room for receipts changed
+  pub looks_kept : (before between after : PostState V O) → LooksOnce before between → after.reader ≡ between.reader → LooksOnce before after
+  looks_kept before between after look same =
+      looks_more before between after look (ap (λ r. r.founds) same) (subst (λ r. IsPrefix between.reader.seen r.seen) (sym same) (prefix_refl between.reader.seen))
+      (ap (λ r. r.board) same) (ap (λ r. r.console) same) (ap (λ r. r.origin) same)

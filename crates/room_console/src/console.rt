@@ -127,6 +127,8 @@ impl<V: Advance + Send + Sync, N: RoomName> Console<V, N> {
     pub fn made(&self) -> u32
         ensures { result ≡ length self.now.receipts }
     {
+        // It has seen an entry for each receipt, so their number fits.
+        let _seen = self.seen;
         self.post.receipts().len() as u32
     }
 
