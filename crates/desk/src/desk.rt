@@ -3,7 +3,7 @@ ghost use Rattle.std.specs.Prelude.{ℕ, ◌≡◌, ◌+◌, ◌-◌, ◌<◌, �
 ghost use Rattle.std.specs.List.{sum_by};
 ghost use Rattle.board.specs.Ends.{newly_seated};
 ghost use Rattle.board.specs.Lists.{IsPrefix};
-ghost use Rattle.desk.specs.Consoles.{IsConsole, next_serial};
+ghost use Rattle.desk.specs.Consoles.{IsConsole, most_consoles, next_serial};
 ghost use Rattle.desk.specs.Ends.{AreAllPosts, number_of};
 ghost use Rattle.desk.specs.Follows.{Follows};
 ghost use Rattle.desk.specs.Legal.{IsLegal};
@@ -59,6 +59,7 @@ impl<V: Advance + Send + Sync, N: RoomName> Desk<V, N> {
         requires board { (seed.board ≡ N.board) × (seed.consoles ≡ N.posts) }
         ensures desk { IfOk result (λ room. room.0 ≡ record { current = seed.first; told = 0 }) }
         ensures empty { V.log seed.first ≡ [] }
+        ensures consoles { (0 < seed.consoles) × (seed.consoles ≤ most_consoles) }
         ensures posts { IfOk result (λ room. AreAllPosts seed.consoles room.1.items) }
         ensures fresh { IfOk result (λ room. (index : ℕ) → index < seed.consoles → IfSome (slice_get room.1.items index) (λ post.
             (post.reader ≡ newly_seated N.board index [] (V.origin seed.first) seed.first) × (post.receipts ≡ []))) }

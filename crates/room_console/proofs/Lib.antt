@@ -1,0 +1,6 @@
+mod Beginnings
+mod Entries
+mod Submitted
+mod NewPosts
+mod Closed
+mod Emptied
