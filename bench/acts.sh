@@ -11,7 +11,7 @@ python3 - "$top/crates/room/out/room" "$top/bench/feeder.py" "${OTHER:-}" <<'PYT
 import os, re, resource, subprocess, sys, tempfile, time
 
 room, feeder, other = sys.argv[1:]
-FEW, MANY, WHOLE = 120, 24120, 40000
+FEW, MANY, WHOLE = 120, 240120, 40000
 
 
 def least_of(command, runs=5):
