@@ -1,5 +1,5 @@
 -- In a legal log no entry stands twice.
-use Rattle.std.proofs.Common.{◌≡◌, ◌+◌, ◌<◌, inl, inr, List, [], ◌∷◌, ◌++◌, length, cond, ap, sym, ◌∙◌, arith, length-append, ◌==◌}
+use Rattle.std.proofs.Common.{◌≡◌, ◌+◌, ◌<◌, inl, inr, List, [], ◌∷◌, ◌++◌, length, cond, ap, arith, length-append, ◌==◌}
 use Rattle.std.specs.Prelude.{Contains}
 use Rattle.std.proofs.lemmas.List.Elements.{filter-append}
 use Rattle.desk.specs.Consoles.{entries_of}

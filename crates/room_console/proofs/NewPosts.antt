@@ -1,5 +1,5 @@
 -- Posts of a room that was just opened.
-use Rattle.std.proofs.Common.{◌≡◌, ℕ, ◌+◌, ◌<◌, ◌≤◌, List, [], length, All, Some, IfSome, slice_get, ap, subst, sym, ◌∙◌, arith}
+use Rattle.std.proofs.Common.{◌≡◌, ℕ, ◌<◌, ◌≤◌, List, [], length, All, IfSome, slice_get, ap, subst, arith}
 use Rattle.atomic_table.specs.Seated.{TableId}
 use Rattle.board.specs.Ends.{newly_seated}
 use Rattle.desk.proofs.Queues.{all_from_get, get_within}

@@ -2,7 +2,7 @@
 use Rattle.std.proofs.Common.{◌≡◌, ℕ, ◌+◌, ◌≤◌, List, [], ◌∷◌, ◌++◌, length, Ok, Err, IfOk, Result, Some, refl, ap, sym, subst, ◌∙◌, arith, length-append}
 use Rattle.std.specs.Prelude.{Contains}
 use Rattle.board.specs.Lists.{IsPrefix}
-use Rattle.desk.specs.Ends.{PostState, number_of}
+use Rattle.desk.specs.Ends.{PostState}
 use Rattle.desk.specs.Legal.{Judgement, IsLegal, IsNext}
 use Rattle.desk.specs.Receipts.{receipt_of}
 use Rattle.room_console.proofs.Beginnings.{prefix_refl, prefix_length, prefix_trans, prefix_append}

@@ -1,5 +1,5 @@
 -- What a submit does for its console, which contracts see as its post.
-use Rattle.std.specs.Prelude.{ℕ, ◌≡◌, ◌+◌, ◌≤◌, List, [], ◌∷◌, ◌++◌, length, Contains, Some}
+use Rattle.std.specs.Prelude.{ℕ, ◌≡◌, ◌≤◌, List, [], ◌∷◌, ◌++◌, length, Contains, Some}
 use Rattle.board.specs.Lists.{IsPrefix}
 use Rattle.desk.specs.Ends.{PostState, number_of}
 use Rattle.desk.specs.Legal.{Judgement, IsLegal, IsNext}

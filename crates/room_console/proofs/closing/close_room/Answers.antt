@@ -1,4 +1,4 @@
-use Rattle.std.proofs.Common.{◌≡◌, Some, length, subst, sym}
+use Rattle.std.proofs.Common.{◌≡◌, Some, subst, sym}
 use Rattle.board.specs.Lists.{IsPrefix}
 use Rattle.desk.specs.Ends.{PostState, number_of}
 use Rattle.desk.specs.Legal.{IsLegal}

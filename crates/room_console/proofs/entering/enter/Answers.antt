@@ -1,8 +1,6 @@
-use Rattle.std.proofs.Common.{rules, ℕ, ◌≡◌, ◌+◌, Err, ap, sym, subst, ◌∙◌}
+use Rattle.std.proofs.Common.{rules, ℕ, ◌≡◌, ◌+◌, ap, subst, ◌∙◌}
 use Rattle.room_console.proofs.Submitted.{entered, refused_there}
 use Rattle.room_console.specs.Submits.{IsRefused, entry_of}
-use Rattle.room_words.specs.declared.refused.Refused.{Refused}
-use Rattle.room_words.specs.declared.refused.Denied.TheVariants as denied
 use Rattle.room_console.proofs.entering.enter.Goals as goal
 
 pub returns-in-Ok-clause-entered : goal.returns-in-Ok-clause-entered

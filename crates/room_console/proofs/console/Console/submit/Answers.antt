@@ -1,11 +1,9 @@
-use Rattle.std.proofs.Common.{rules, ◌≡◌, ◌+◌, Err, IfOk, ap, sym, subst, ◌∙◌}
+use Rattle.std.proofs.Common.{rules, ◌≡◌, ap, sym, subst, ◌∙◌}
 use Rattle.desk.specs.Consoles.{IsConsole}
 use Rattle.desk.specs.Ends.{PostState, number_of}
 use Rattle.room_console.proofs.Submitted.{Entered, Refuses, answered, counted, entered_after, refused_after, if_ok_with, looks_kept, looks_more}
-use Rattle.room_console.specs.Submits.{LooksOnce, IsEntered}
+use Rattle.room_console.specs.Submits.{LooksOnce}
 use Rattle.room_words.specs.declared.event.Event.{Event}
-use Rattle.room_words.specs.declared.refused.Refused.{Refused}
-use Rattle.room_words.specs.declared.refused.Denied.TheVariants as denied
 use Rattle.room_console.proofs.console.Console.submit.Goals as goal
 
 pub invariant_of-self-2 : goal.invariant_of-self-2
