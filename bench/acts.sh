@@ -11,10 +11,10 @@ python3 - "$top/crates/room/out/room" "$top/bench/feeder.py" "${OTHER:-}" <<'PYT
 import os, re, resource, subprocess, sys, tempfile, time
 
 room, feeder, other = sys.argv[1:]
-FEW, MANY, WHOLE = 120, 240120, 40000
+FEW, MANY, WHOLE = 120, 480120, 40000
 
 
-def least_of(command, runs=5):
+def least_of(command, runs=4):
     """The least seconds of some runs."""
     best = None
     for _ in range(runs):

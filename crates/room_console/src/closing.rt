@@ -7,7 +7,7 @@ ghost use Rattle.desk.specs.Legal.{IsLegal};
 ghost use Rattle.desk.specs.Receipts.{AreNumbered, receipts_in};
 
 use crate::console::Console;
-use crate::room::Room;
+use crate::room::{Locked, Room};
 use crate::seats::gather;
 use desk::{Advance, Closed, RoomName};
 
@@ -35,9 +35,9 @@ pub fn close_room<V: Advance + Send + Sync, N: RoomName>(
     ensures serials { All (λ console. AreNumbered console.receipts) consoles.items }
     ensures all { sum_by (λ console. length console.receipts) consoles.items ≡ result.made }
 {
-    let Room { desk, returned } = room;
+    let Locked { desk, returned } = room.locked.into_inner();
     let posts = gather(consoles, returned);
-    let Closed { last } = desk.into_inner().close(posts);
+    let Closed { last } = desk.close(posts);
     let made = u64::from(last.number());
     ClosedRoom { last, made }
 }

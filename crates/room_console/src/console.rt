@@ -80,7 +80,7 @@ impl<V: Advance + Send + Sync, N: RoomName> Console<V, N> {
         };
         let answer = enter(
             alloc,
-            &mut *room.desk.lock(rt),
+            &mut room.locked.lock(rt).desk,
             &mut self.post,
             &mut entry,
             steps,

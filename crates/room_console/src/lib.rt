@@ -3,6 +3,7 @@
 
 mod closing;
 mod console;
+mod crossing;
 mod entering;
 mod room;
 mod seats;

@@ -13,19 +13,26 @@ use std::sync::Mutex;
 /// A room: the desk with a lock round it, for all consoles in their threads.
 #[derive(Drop)]
 pub struct Room<V: Advance + Send + Sync, N: RoomName> {
-    pub(crate) desk: Mutex<Desk<V, N>>,
+    pub(crate) locked: Mutex<Locked<V, N>>,
+}
+
+/// What the lock of a room is round: the desk, and what the close needs.
+#[derive(Drop)]
+pub(crate) struct Locked<V: Advance + Send + Sync, N: RoomName> {
+    pub(crate) desk: Desk<V, N>,
     /// An empty list with room for the posts of all consoles at the close.
     pub(crate) returned: Vec<Post<V, N>>,
 }
 
-impl<V: Advance + Send + Sync, N: RoomName> Model for Room<V, N> {
-    ghost use Rattle.std.specs.Prelude.{◌≡◌, ◌≤◌, [], vec_capacity, ⊤};
+impl<V: Advance + Send + Sync, N: RoomName> Model for Locked<V, N> {
+    ghost use Rattle.std.specs.Prelude.{◌≡◌, ◌≤◌, [], vec_capacity};
+    ghost use Rattle.desk.specs.Ends.{DeskState};
 
-    ghost Value = { ⊤ };
+    ghost Value = { DeskState V };
 
-    ghost view = { λ _. tt };
+    ghost view = { λ l. l.desk };
 
-    ghost invariant = { λ r. (r.returned.items ≡ []) × (N.posts ≤ vec_capacity r.returned) };
+    ghost invariant = { λ l. (l.returned.items ≡ []) × (N.posts ≤ vec_capacity l.returned) };
 }
 
 /// Opens a seed: the room, and its consoles, the first one first. The first version comes back where there is no memory.
@@ -48,8 +55,7 @@ pub fn start_room<V: Advance + Send + Sync, N: RoomName>(
     };
     let (returned, consoles) = seat_all(posts, consoles);
     let room = Room {
-        desk: Mutex::new(desk),
-        returned,
+        locked: Mutex::new(Locked { desk, returned }),
     };
     Ok((room, consoles))
 }
