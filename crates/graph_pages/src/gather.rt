@@ -1,9 +1,11 @@
 //! Making a map.
 
-ghost use Rattle.std.specs.Prelude.{◌≡◌, ◌<◌, ◌≤◌, ◌+◌, ◌++◌, ◌∷◌, [], length, map, replicate, slice_index_or, slice_set, IfOk, OnOk};
+ghost use Rattle.std.specs.Prelude.{◌≡◌, ◌<◌, ◌≤◌, ◌+◌, ◌/◌, ◌++◌, ◌∷◌, [], length, max, min, map, replicate, slice_index_or, slice_set, IfOk, OnOk};
+ghost use Rattle.std.specs.Int.{IsPowerOfTwo};
 ghost use Rattle.std.specs.List.{IsDistinct};
 ghost use Rattle.graph_pages.specs.Buckets.{AreBuckets, all_items};
 ghost use Rattle.graph_pages.specs.Keyed.{item_at};
+ghost use Rattle.graph_pages.specs.declared.gather.TheConstants.{MOST_BUCKETS};
 
 use crate::bucket::Bucket;
 use crate::keyed::Keyed;
@@ -41,7 +43,10 @@ impl<T: Keyed> PagedMap<T> {
 
 /// How many buckets there are for so many items: the least power of two that is no less, up to the most.
 fn buckets_for(count: usize) -> usize
-    ensures { 0 < result }
+    ensures some { 0 < result }
+    ensures power { IsPowerOfTwo result }
+    ensures no_less { min count MOST_BUCKETS ≤ result }
+    ensures least { result / 2 < max 1 (min count MOST_BUCKETS) }
 {
     count.clamp(1, MOST_BUCKETS).next_power_of_two()
 }
