@@ -96,7 +96,7 @@ impl<V: Advance + Send + Sync, N: RoomName> Desk<V, N> {
             console,
             serial,
         } = prepared;
-        self.tell(post);
+        self.writer.meet(&mut post.reader);
         self.writer.publish(copies);
         inform(&mut self.writer, &mut post.reader);
         let receipt = Receipt {
