@@ -69,7 +69,10 @@ impl<V: Advance + Send + Sync, N: RoomName> Desk<V, N> {
             → (why.at ≡ length (V.log self.now.current)) × V.judges (V.origin self.now.current) (V.log self.now.current) entry.now.event (Some why.why) }
         ensures bound { IfSome (V.ticks entry.now.event) (λ most. steps.new ≤ steps.old + most) }
     {
-        let version = self.writer.last().advance(alloc, entry, steps)?;
+        let version = match self.writer.last().advance(alloc, entry, steps) {
+            Ok(version) => version,
+            Err(denied) => return Err(denied),
+        };
         let Ok(copies) = Copies::of(alloc, version, self.consoles) else {
             return Err(Denied::NoMemory);
         };
