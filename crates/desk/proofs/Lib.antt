@@ -1,3 +1,4 @@
+pub mod Desks
 pub mod Legal
 pub mod Posts
 pub mod Receipts
