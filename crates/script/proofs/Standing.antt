@@ -1,5 +1,5 @@
 -- Where the playing of a script stands between two lines.
-use Rattle.std.proofs.Common.{◌≡◌, ℕ, List, [], ◌∷◌, ◌++◌, Option, Some, None, inl, inr, refl, sym, ap, subst, ◌∙◌, append_assoc, append-nil}
+use Rattle.std.proofs.Common.{◌≡◌, ℕ, List, [], ◌∷◌, ◌++◌, Option, Some, None, true, inl, inr, refl, sym, ap, subst, ◌∙◌, append_assoc, append-nil}
 use Rattle.script.specs.Answers.{Answers, AreAnswered, Stages}
 use Rattle.script.specs.Lines.{Asks, behind_console, stage_word}
 use Rattle.script.specs.Rehearsal.{RehearsalState}
