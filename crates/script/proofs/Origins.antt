@@ -1,5 +1,5 @@
 -- A script leaves where the history began.
-use Rattle.std.proofs.Common.{◌≡◌, ◌⊎◌, ℕ, List, [], ◌∷◌, Option, Some, None, inl, inr, refl, ap, ◌∙◌}
+use Rattle.std.proofs.Common.{◌≡◌, ℕ, List, [], ◌∷◌, Option, Some, None, inl, inr, ap, ◌∙◌}
 use Rattle.cim_words.specs.declared.statement.Statement.{Statement}
 use Rattle.room_core.specs.Machine.{IsStep, RoomState}
 use Rattle.room_core.specs.declared.event.CoreEvent.{CoreEvent}

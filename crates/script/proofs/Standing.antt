@@ -3,9 +3,9 @@ use Rattle.std.proofs.Common.{◌≡◌, ℕ, List, [], ◌∷◌, ◌++◌, Opt
 use Rattle.script.specs.Answers.{Answers, AreAnswered, Stages}
 use Rattle.script.specs.Lines.{Asks, behind_console, stage_word}
 use Rattle.script.specs.Rehearsal.{RehearsalState}
-use Rattle.script.specs.Staging.{Begins, Ends, GoesOn, Staged, StagesKept, Takes, with_more}
-use Rattle.script.specs.Turns.{Turn, alone, is_skipped, opens, turns_from, with_line}
-use Rattle.staging.specs.Documents.{HasFault, Says, closes, document_text, kept, more_kept}
+use Rattle.script.specs.Staging.{Ends, Staged, StagesKept, Takes, with_more}
+use Rattle.script.specs.Turns.{Turn, alone, turns_from, with_line}
+use Rattle.staging.specs.Documents.{HasFault, Says, document_text, kept, more_kept}
 use Rattle.staging.proofs.Kept.{kept_fault, kept_more, kept_says}
 use Rattle.wire.specs.Requests.{IsRequest}
 use Rattle.wire.specs.declared.request.Request.TheVariants as request

@@ -10,7 +10,6 @@ use Rattle.room_core.specs.declared.event.CoreEvent.TheVariants as step
 use Rattle.room_core.specs.declared.reply.CoreReply.{CoreReply}
 use Rattle.room_core.specs.declared.reply.CoreReply.TheVariants as core
 use Rattle.room_words.specs.Differences.{Changes}
-use Rattle.room_words.specs.declared.event.Event.{Event}
 use Rattle.room_words.specs.declared.event.Event.TheVariants as event
 use Rattle.room_words.specs.declared.fault.Fault.{Fault}
 use Rattle.room_words.specs.declared.fault.Fault.TheVariants as fault
