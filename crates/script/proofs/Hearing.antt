@@ -1,5 +1,5 @@
 -- What a console is heard to say, as a line of a script.
-use Rattle.std.proofs.Common.{◌≡◌, ◌≤◌, ℕ, List, [], ◌++◌, length, Option, Some, None, Result, Ok, Err, IfOk, Bool, false, inl, inr, refl, sym, ap, subst, ◌∙◌}
+use Rattle.std.proofs.Common.{◌≡◌, ◌≤◌, ℕ, List, ◌++◌, length, Option, Some, None, Result, Ok, Err, IfOk, false, inr, sym, ap, subst, ◌∙◌}
 use Rattle.cim_words.specs.Written.{line_limit}
 use Rattle.desk.specs.Consoles.{IsConsole}
 use Rattle.script.specs.Lines.{Asks, behind_console, stage_word}

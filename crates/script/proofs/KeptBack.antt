@@ -1,5 +1,5 @@
 -- A text that is told in pieces: what was sent, and what is kept back of it.
-use Rattle.std.proofs.Common.{◌≡◌, ℕ, List, [], ◌++◌, Result, Ok, Err, IfErr, refl, sym, ap, subst, ◌∙◌, append_assoc}
+use Rattle.std.proofs.Common.{◌≡◌, ℕ, List, [], ◌++◌, Result, Ok, Err, IfErr, sym, ap, subst, ◌∙◌, append_assoc}
 use Rattle.std.specs.Result.{IsErrAnd}
 use Rattle.script.specs.Sending.{Breaks, OutputState, Sends, StopsAt}
 use Rattle.script.specs.declared.fault.PlayFault.{PlayFault}

@@ -1,5 +1,5 @@
 -- A script has one answer over a base.
-use Rattle.std.proofs.Common.{◌≡◌, ◌⊎◌, ℕ, ◌<◌, ◌≤◌, List, [], ◌∷◌, ◌++◌, length, Option, Some, None, true, false, inl, inr, refl, sym, ap, subst, ◌∙◌, arith}
+use Rattle.std.proofs.Common.{◌≡◌, ℕ, List, [], ◌∷◌, ◌++◌, length, Option, Some, None, true, false, inl, inr, sym, ap, subst, ◌∙◌, arith}
 use Rattle.cim_model.specs.Links.{network}
 use Rattle.cim_model.specs.Live.{is_live}
 use Rattle.cim_model.specs.Reach.{IsReached}
@@ -8,7 +8,7 @@ use Rattle.cim_words.specs.declared.phases.PhaseSet.{PhaseSet}
 use Rattle.cim_words.specs.declared.statement.Statement.{Statement}
 use Rattle.difference.specs.Document.{IsDocument}
 use Rattle.difference.specs.Faults.{IsFault}
-use Rattle.room_core.specs.Machine.{IsStep, RoomState, seen_by}
+use Rattle.room_core.specs.Machine.{IsStep, RoomState}
 use Rattle.room_core.specs.declared.event.CoreEvent.{CoreEvent}
 use Rattle.room_core.specs.declared.event.CoreEvent.TheVariants as step
 use Rattle.room_core.specs.declared.reply.CoreReply.{CoreReply}
@@ -23,10 +23,11 @@ use Rattle.room_words.specs.declared.reply.Reply.TheVariants as reply
 use Rattle.room_words.specs.declared.stage_fault.StageFault.{StageFault}
 use Rattle.script.proofs.Consoles.{one_console}
 use Rattle.script.specs.Answers.{Answers, AnswersConsole, AnswersRequest, AreAnswered, CutsOver, Stages, Steps, Traces, reply_to_step, staged_after}
-use Rattle.script.specs.Lines.{Asks, NamesNoConsole, behind_console}
+use Rattle.script.specs.Lines.{behind_console}
 use Rattle.script.specs.Played.{IsPlayed}
 use Rattle.script.specs.Rehearsal.{RehearsalState, at_start, seen_past, staged_by, with_staged}
-use Rattle.script.specs.Turns.{Turn, document_text, turns_of}
+use Rattle.script.specs.Turns.{Turn, turns_of}
+use Rattle.staging.specs.Documents.{document_text}
 use Rattle.versions.specs.History.{IsNow, Judges, Network}
 use Rattle.versions.specs.Traced.{HasNoSource, IsTraceOf}
 use Rattle.wire.specs.Entries.{history_text}

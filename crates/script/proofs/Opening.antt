@@ -1,5 +1,5 @@
 -- A document begins after the line by which a console stages it, and after no other.
-use Rattle.std.proofs.Common.{◌≡◌, ℕ, ◌+◌, ◌-◌, ◌<◌, ◌≤◌, ◌⊎◌, inl, inr, List, [], ◌∷◌, ◌++◌, length, get_or, Bool, true, false, arith, refl, sym, ap, ◌∙◌, subst}
+use Rattle.std.proofs.Common.{◌≡◌, ℕ, ◌+◌, ◌-◌, ◌<◌, ◌≤◌, ◌⊎◌, inl, inr, List, ◌∷◌, length, get_or, true, false, arith, sym, ap, ◌∙◌}
 use Rattle.std.proofs.lemmas.Bool.{false_from_ne_true}
 use Rattle.std.proofs.lemmas.List.Folds.{Any-from_list_any, list_any_at}
 use Rattle.std.proofs.lemmas.List.FromFn.{get_or-range_with_len, length-range_with_len}
@@ -7,7 +7,7 @@ use Rattle.std.proofs.lemmas.Slice.Eq.{bytes_eq-Decides}
 use Rattle.std.specs.Str.{bytes_eq}
 use Rattle.cim_words.specs.Written.{line_limit}
 use Rattle.desk.specs.Consoles.{IsConsole, most_consoles}
-use Rattle.script.specs.Lines.{Asks, behind_console, stage_word}
+use Rattle.script.specs.Lines.{behind_console, stage_word}
 use Rattle.script.specs.Turns.{consoles, opens, stage_line}
 use Rattle.script.proofs.Consoles.{begins, one_console}
 

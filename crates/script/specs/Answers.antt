@@ -10,7 +10,6 @@ use Rattle.room_core.specs.declared.event.CoreEvent.TheVariants as step
 use Rattle.room_core.specs.declared.reply.CoreReply.{CoreReply}
 use Rattle.room_core.specs.declared.reply.CoreReply.TheVariants as core
 use Rattle.room_words.specs.Differences.{Changes}
-use Rattle.room_words.specs.declared.event.Event.{Event}
 use Rattle.room_words.specs.declared.event.Event.TheVariants as event
 use Rattle.room_words.specs.declared.fault.Fault.{Fault}
 use Rattle.room_words.specs.declared.fault.Fault.TheVariants as fault
@@ -19,7 +18,8 @@ use Rattle.room_words.specs.declared.reply.Reply.TheVariants as reply
 use Rattle.room_words.specs.declared.stage_fault.StageFault.{StageFault}
 use Rattle.script.specs.Lines.{Asks, NamesNoConsole, behind_console}
 use Rattle.script.specs.Rehearsal.{RehearsalState, seen_past, staged_by, with_staged}
-use Rattle.script.specs.Turns.{Turn, document_text}
+use Rattle.script.specs.Turns.{Turn}
+use Rattle.staging.specs.Documents.{document_text}
 use Rattle.versions.specs.History.{Judges}
 use Rattle.versions.specs.Traced.{HasNoSource, IsTraceOf}
 use Rattle.wire.specs.Replies.{reply_text}

@@ -1,5 +1,5 @@
 -- The lines of a script, of this project: each begins with its console.
-use Rattle.std.specs.Prelude.{ℕ, ◌≡◌, ◌≤◌, ◌++◌, List, [], ◌∷◌, length, codes}
+use Rattle.std.specs.Prelude.{ℕ, ◌≡◌, ◌≤◌, ◌++◌, List, ◌∷◌, length, codes}
 use Rattle.std.specs.Fmt.{decimal}
 use Rattle.cim_words.specs.Written.{line_limit}
 use Rattle.desk.specs.Consoles.{IsConsole}

@@ -1,4 +1,4 @@
-use Rattle.std.proofs.Common.{◌≡◌, ◌++◌, [], ℕ, List, refl, subst}
+use Rattle.std.proofs.Common.{◌≡◌, ◌++◌, [], List, subst}
 use Rattle.std.proofs.lemmas.Result.{IfErr-weaker, on_ok_weaker}
 use Rattle.cim_words.specs.declared.statement.Statement.{Statement}
 use Rattle.desk.specs.Legal.{IsLegal}

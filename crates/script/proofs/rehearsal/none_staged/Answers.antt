@@ -1,4 +1,4 @@
-use Rattle.std.proofs.Common.{◌≡◌, [], ◌∷◌, ◌++◌, None, ap, ◌∙◌, List, Option}
+use Rattle.std.proofs.Common.{[], ◌∷◌, ◌++◌, None, ap, ◌∙◌, List, Option}
 use Rattle.std.proofs.lemmas.List.{replicate_more}
 use Rattle.room_words.specs.Differences.{Changes}
 use Rattle.script.proofs.rehearsal.none_staged.Goals as goal

@@ -1,4 +1,4 @@
-use Rattle.std.proofs.Common.{◌≡◌, ◌++◌, [], ℕ, List, Option, None, true, refl, sym, ap, subst, ◌∙◌, append-nil}
+use Rattle.std.proofs.Common.{◌≡◌, ◌++◌, [], ℕ, List, None, true, refl, sym, subst, ◌∙◌}
 use Rattle.nt_text.specs.Document.{lines_of}
 use Rattle.script.specs.Answers.{AreAnswered}
 use Rattle.script.specs.Rehearsal.{RehearsalState}

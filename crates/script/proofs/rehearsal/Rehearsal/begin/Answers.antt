@@ -1,4 +1,4 @@
-use Rattle.std.proofs.Common.{◌≡◌, arith, inl, inr, refl, sym, ◌∙◌}
+use Rattle.std.proofs.Common.{arith, inl, inr, refl, sym, ◌∙◌}
 use Rattle.room_words.specs.declared.fault.Fault.TheVariants as fault
 use Rattle.script.specs.Answers.{told_to_none}
 use Rattle.script.proofs.Hearing.{heard}

@@ -1,6 +1,4 @@
-use Rattle.std.proofs.Common.{◌≡◌, ◌<◌, ◌≤◌, ◌+◌, ◌++◌, [], ℕ, length, refl, sym, ap, ◌∙◌, append-nil, arith}
-use Rattle.std.proofs.Common.{List}
-use Rattle.room_words.specs.declared.event.Entry.{Entry}
+use Rattle.std.proofs.Common.{◌≡◌, ◌≤◌, ◌+◌, ◌++◌, [], length, refl, ap, ◌∙◌, append-nil, arith}
 use Rattle.wire.specs.Entries.{entry_text, history_text}
 use Rattle.script.specs.Rehearsal.{RehearsalState}
 use Rattle.script.specs.declared.fault.PlayFault.TheVariants as fault
