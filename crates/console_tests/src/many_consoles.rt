@@ -44,7 +44,7 @@ impl Tally {
 }
 
 /// A day of some consoles in so many threads.
-fn tally<R: Threads + Wait + Sync>(
+fn spend<R: Threads + Wait + Sync>(
     rt: &R,
     alloc: Global,
     consoles: u8,
@@ -110,7 +110,7 @@ fn two_consoles_apart_are_refused_nothing(rt: HostRuntime) -> Result<(), Fail> {
         is_sound: true,
         is_legal: true,
     };
-    assert_eq!(rt; tally(&rt, rt.alloc(), 2, 2, work)?, all);
+    assert_eq!(rt; spend(&rt, rt.alloc(), 2, 2, work)?, all);
     Ok(())
 }
 
@@ -120,7 +120,7 @@ fn sixteen_consoles_together_get_receipts_for_all_entries(rt: HostRuntime) -> Re
         orders: Orders::Together,
         turns: 200,
     };
-    let told = tally(&rt, rt.alloc(), 16, 16, work)?;
+    let told = spend(&rt, rt.alloc(), 16, 16, work)?;
     let all = Tally {
         turns: 3200,
         named: told.entered,
