@@ -36,7 +36,8 @@ struct Tally {
 impl Tally {
     /// With the turns of one more console.
     fn add(&mut self, last: &Version, answers: &Answers) {
-        self.turns = self.turns.saturating_add(answers.turns.len() as u32);
+        let turns = u32::try_from(answers.turns.len()).unwrap_or(u32::MAX);
+        self.turns = self.turns.saturating_add(turns);
         self.entered = self.entered.saturating_add(answers.entered());
         self.named = self.named.saturating_add(named(last, answers));
         self.is_sound = self.is_sound && answers.are_sound();
@@ -83,9 +84,11 @@ fn is_replayed(alloc: Global, base: Version, last: &Version) -> Result<bool, Fai
 /// Whether the same stands on two versions, and current takes the same ways from the source.
 fn are_same(alloc: Global, one: &Version, other: &Version) -> Result<bool, Fail> {
     let (ours, theirs) = (one.overlay(), other.overlay());
-    Ok(ours.items.as_slice() == theirs.items.as_slice()
-        && ours.positions.as_slice() == theirs.positions.as_slice()
-        && trace(alloc, one)? == trace(alloc, other)?)
+    Ok(
+        ours.items.as_slice() == theirs.items.as_slice()
+            && ours.positions.as_slice() == theirs.positions.as_slice()
+            && trace(alloc, one)? == trace(alloc, other)?,
+    )
 }
 
 /// The text of the trace from the source.
