@@ -1,12 +1,12 @@
 #!/usr/bin/env bash
-# How long sixteen consoles take in one, four and sixteen threads: consoles.sh [ORDERS], by default 2,000 orders for each console.
+# How long sixteen consoles take in one, four and sixteen threads: consoles.sh [ORDERS], by default 200 orders for each console.
 # They order what the test of sixteen consoles in `console_tests` has them order, over the same small feeder, and each looks after each
 # order. It prints a line for each number of threads: orders and looks together, milliseconds, and how many that is in a second, the
 # opening and the close of the room with them. Who has the desk's lock keeps the others from it, so more threads make no more orders.
 # A test that prints this is added to `console_tests` in a copy of the repository, and run there without a proof.
 set -eu
 top="$(cd "$(dirname "${BASH_SOURCE[0]}")/.." && pwd)"
-orders="${1:-2000}"
+orders="${1:-200}"
 copy="$(mktemp -d)"
 trap 'rm -rf "$copy"' EXIT
 (cd "$top" && tar -cf - --exclude=out --exclude=.git .) | tar -xf - -C "$copy"
@@ -28,6 +28,7 @@ use crate::feeder::first;
 use crate::orders::Orders;
 use crate::rooms::day;
 use crate::working::Work;
+use board::Dated;
 use std::test::Fail;
 use std::time::Instant;
 
@@ -42,7 +43,7 @@ fn sixteen_consoles_are_timed(rt: HostRuntime) -> Result<(), Fail> {
         let start = Instant::now(&rt)?;
         let (closed, _) = day(&rt, rt.alloc(), base.share()?, 16, threads.max(1), work)?;
         let took = start.elapsed(&rt)?.as_micros();
-        eprintln!(rt; "timed {threads} {} {took}", closed.made);
+        eprintln!(rt; "timed {threads} {} {took}", closed.made)?;
     }
     Ok(())
 }
