@@ -1,5 +1,5 @@
 -- How the requests of a session are answered, in a history of a base. All of it is of this project.
-use Rattle.std.specs.Prelude.{ℕ, ◌≡◌, ◌⊎◌, List, length, take, Option, Some, None, ⊥, false}
+use Rattle.std.specs.Prelude.{ℕ, ◌≡◌, ◌⊎◌, List, length, take, Option, Some, None, false}
 use Rattle.cim_words.specs.declared.phases.PhaseSet.{PhaseSet}
 use Rattle.cim_words.specs.declared.statement.Statement.{Statement}
 use Rattle.difference.specs.Document.{IsDocument}
@@ -21,6 +21,24 @@ use Rattle.wire.specs.Replies.{reply_text}
 use Rattle.wire.specs.Requests.{IsRequest, IsRequestFault}
 use Rattle.wire.specs.declared.request.Request.{Request}
 use Rattle.wire.specs.declared.request.Request.TheVariants as request
+
+-- A document is staged in place of what was staged before; or it has a fault, or memory did not suffice, and nothing changes.
+abbrev pub Stages : List ℕ → SessionState → Reply → SessionState → Type 0
+Stages document before (reply.Staged pre rev fwd) after =
+    (d : Changes) × IsDocument document d × (pre ≡ length d.pre) × (rev ≡ length d.rev) × (fwd ≡ length d.fwd)
+    × (after ≡ record { view = before.view; staged = Some d })
+Stages document before (reply.Fault (fault.Stage bad)) after = IsFault document bad × (after ≡ before)
+Stages document before reply.Memory after = after ≡ before
+Stages document before _ after = ⊥
+
+-- what is staged after a cutover: nothing once it was accepted
+abbrev pub staged_after : Reply → Option Changes → Option Changes
+staged_after (reply.Ok number) staged = None
+staged_after _ staged = staged
+
+-- a reply that changes nothing, or memory did not suffice for it
+abbrev pub Tells : Reply → SessionState → Reply → SessionState → Type 0
+Tells expected before told after = ((told ≡ expected) ⊎ (told ≡ reply.Memory)) × (after ≡ before)
 
 module _ (base : List Statement) (history : List Entry) (console : ℕ) where
   -- An event is entered; or it is refused, as it is judged on the entries that are seen then; or memory did not suffice.
@@ -46,24 +64,6 @@ module _ (base : List Statement) (history : List Entry) (console : ℕ) where
       OnlySees history before after count × HasNoSource (record { base = base; log = take count history }) start
   Traces start phases before reply.Memory after = MaySee history before after
   Traces start phases before _ after = ⊥
-
-  -- A document is staged in place of what was staged before; or it has a fault, or memory did not suffice, and nothing changes.
-  abbrev pub Stages : List ℕ → SessionState → Reply → SessionState → Type 0
-  Stages document before (reply.Staged pre rev fwd) after =
-      (d : Changes) × IsDocument document d × (pre ≡ length d.pre) × (rev ≡ length d.rev) × (fwd ≡ length d.fwd)
-      × (after ≡ record { view = before.view; staged = Some d })
-  Stages document before (reply.Fault (fault.Stage bad)) after = IsFault document bad × (after ≡ before)
-  Stages document before reply.Memory after = after ≡ before
-  Stages document before _ after = ⊥
-
-  -- what is staged after a cutover: nothing once it was accepted
-  abbrev pub staged_after : Reply → Option Changes → Option Changes
-  staged_after (reply.Ok number) staged = None
-  staged_after _ staged = staged
-
-  -- a reply that changes nothing, or memory did not suffice for it
-  abbrev pub Tells : Reply → SessionState → Reply → SessionState → Type 0
-  Tells expected before told after = ((told ≡ expected) ⊎ (told ≡ reply.Memory)) × (after ≡ before)
 
   -- What is staged is submitted. Where nothing is, that is a fault, and nothing changes.
   abbrev pub CutsOver : Option Changes → SessionState → Reply → SessionState → Type 0

@@ -1,6 +1,7 @@
 -- What the calls of a session say of their console, of the history, and of what they write. All of it is of this project.
-use Rattle.std.specs.Prelude.{ℕ, ◌≡◌, ◌+◌, ◌≤◌, ◌⊎◌, List, [], ◌∷◌, ◌++◌, length, Option, Some, None, Result, Ok, Err, ⊥, if◌then◌else◌}
+use Rattle.std.specs.Prelude.{ℕ, ◌≡◌, ◌+◌, ◌≤◌, ◌⊎◌, List, [], ◌∷◌, ◌++◌, length, Option, Some, None, Result, Ok, Err}
 use Rattle.std.specs.Str.{bytes_eq}
+use Rattle.std.specs.declared.alloc.AllocError.{AllocError}
 use Rattle.board.specs.Lists.{IsPrefix}
 use Rattle.cim_words.specs.declared.statement.Statement.{Statement}
 use Rattle.desk.specs.Ends.{PostState, number_of}
@@ -13,14 +14,12 @@ use Rattle.room_words.specs.declared.fault.Fault.TheVariants as fault
 use Rattle.room_words.specs.declared.reply.Reply.{Reply}
 use Rattle.room_words.specs.declared.reply.Reply.TheVariants as reply
 use Rattle.room_words.specs.declared.stage_fault.StageFault.{StageFault}
-use Rattle.session_host.specs.Exchanges.{answer_of, silence}
+use Rattle.session_host.specs.Exchanges.{When, answer_of, silence, stage_line}
 use Rattle.session_host.specs.Replies.{AnswersLine}
 use Rattle.session_host.specs.Views.{SessionState, view_of}
 use Rattle.staging.specs.Documents.{HasFault, Says, closes, more_kept}
 use Rattle.versions.specs.Past.{Past}
 use Rattle.wire.specs.Replies.{reply_text}
-use Rattle.wire.specs.Requests.{request_word}
-use Rattle.wire.specs.declared.request_word.RequestWord.TheVariants as word
 
 -- a console as contracts see it
 abbrev pub Post : Type 0
@@ -40,13 +39,13 @@ Ever before after Holds = (base : List Statement) → before.reader.origin ≡ S
     → (history : List Entry) → IsPrefix after.reader.seen history → Holds base history
 
 -- A reply is written at the end, and the session goes on as the reply says; or memory did not suffice, and nothing is written.
-abbrev pub Replied : Result Next NoMemory → List ℕ → List ℕ → (Reply → Type 0) → Type 0
+abbrev pub Replied : Result Next AllocError → List ℕ → List ℕ → (Reply → Type 0) → Type 0
 Replied (Ok next) old new Holds =
     (told : Reply) × (answer_of told ≡ Some (next, reply_text told)) × (new ≡ old ++ reply_text told) × Holds told
 Replied (Err _) old new Holds = (new ≡ old) × Holds reply.Memory
 
 -- the same, where nothing may be written besides
-abbrev pub Answered : Result Next NoMemory → List ℕ → List ℕ → (Answer → Type 0) → Type 0
+abbrev pub Answered : Result Next AllocError → List ℕ → List ℕ → (Answer → Type 0) → Type 0
 Answered (Ok next) old new Holds = (text : List ℕ) × (new ≡ old ++ text) × Holds (Some (next, text))
 Answered (Err _) old new Holds = (new ≡ old) × Holds None
 
@@ -55,7 +54,7 @@ abbrev pub next_of : Reply → Next
 next_of reply.Bye = next.Bye
 next_of _ = next.Go
 
-abbrev pub IsTold : Reply → Result Next NoMemory → List ℕ → List ℕ → Type 0
+abbrev pub IsTold : Reply → Result Next AllocError → List ℕ → List ℕ → Type 0
 IsTold told (Ok next) old new = (answer_of told ≡ Some (next, reply_text told)) × (new ≡ old ++ reply_text told)
 IsTold told (Err _) old new = (told ≡ reply.Memory) × (new ≡ old)
 
@@ -88,19 +87,19 @@ StagesDraft draft before _ after = ⊥
 -- A line outside a document begins one, or is a request.
 abbrev pub TalksOutside : TalkState → Post → List ℕ → Answer → TalkState → Post → Type 0
 TalksOutside before post line answer after post_after =
-    if bytes_eq line (request_word word.Stage)
-    then (answer ≡ silence) × (after ≡ record { staged = before.staged; draft = Some (Some (Some [])) }) × (post_after ≡ post)
-    else (told : Reply) × (answer ≡ answer_of told) × (after.draft ≡ None)
-    × Ever post post_after (λ base history. AnswersLine base history (number_of post) line [] (state_of before post) told (state_of after post_after))
+    When (bytes_eq line stage_line)
+    ((answer ≡ silence) × (after ≡ record { staged = before.staged; draft = Some (Some (Some [])) }) × (post_after ≡ post))
+    ((told : Reply) × (answer ≡ answer_of told) × (after.draft ≡ None)
+    × Ever post post_after (λ base history. AnswersLine base history (number_of post) line [] (state_of before post) told (state_of after post_after)))
 
 -- A line within a document is taken, and ends it or not.
 abbrev pub TalksWithin : Option (Option (List ℕ)) → TalkState → Post → List ℕ → Answer → TalkState → Post → Type 0
 TalksWithin draft before post line answer after post_after = (taken : Option (Option (List ℕ))) × TakesLine draft line taken
     × (post_after ≡ post)
-    × (if closes line
-       then (told : Reply) × (answer ≡ answer_of told) × (after.draft ≡ None)
-       × StagesDraft taken (state_of before post) told (state_of after post)
-       else (answer ≡ silence) × (after ≡ record { staged = before.staged; draft = Some taken }))
+    × When (closes line)
+    ((told : Reply) × (answer ≡ answer_of told) × (after.draft ≡ None)
+    × StagesDraft taken (state_of before post) told (state_of after post))
+    ((answer ≡ silence) × (after ≡ record { staged = before.staged; draft = Some taken }))
 
 abbrev pub TalksBy : Option (Option (Option (List ℕ))) → TalkState → Post → List ℕ → Answer → TalkState → Post → Type 0
 TalksBy None before post line answer after post_after = TalksOutside before post line answer after post_after

@@ -7,4 +7,4 @@ mod session;
 mod submits;
 mod talk;
 
-pub use session::serve_session;
+pub use session::{SessionEnd, serve_session};

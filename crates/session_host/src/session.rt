@@ -1,6 +1,6 @@
 //! One session of a console over a link.
 
-ghost use Rattle.std.specs.Prelude.{ℕ, ◌≡◌, ◌×◌, ◌+◌, ◌-◌, ◌<◌, ◌≤◌, ◌^◌, List, length, None, Some, Ok, Err, IfOk, OnErr};
+ghost use Rattle.std.specs.Prelude.{ℕ, ◌≡◌, ◌+◌, ◌-◌, ◌<◌, ◌≤◌, ◌^◌, List, length, None, Some, Ok, Err, IfOk, OnErr};
 ghost use Rattle.cim_words.specs.declared.statement.Statement.{Statement};
 ghost use Rattle.desk.specs.Ends.{number_of};
 ghost use Rattle.grid_out.specs.Faults.{CountsFaults};

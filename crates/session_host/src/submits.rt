@@ -1,6 +1,6 @@
 //! What a console does in its room for a request.
 
-ghost use Rattle.std.specs.Prelude.{ℕ, ◌≡◌, ◌×◌, ◌<◌, ◌^◌, List, length, Some, IfSome};
+ghost use Rattle.std.specs.Prelude.{ℕ, ◌≡◌, ◌<◌, ◌^◌, List, length, Some, IfSome};
 ghost use Rattle.board.specs.Lists.{IsPrefix};
 ghost use Rattle.desk.specs.Ends.{number_of};
 ghost use Rattle.session_host.specs.Looks.{OnlySees};

@@ -97,7 +97,7 @@ impl<L: Ledger> Talk<L> {
         ensures seat { KeepsSeat console.old console.new }
         ensures answers { Answered result out.old.items out.new.items (λ answer. TalksOutside self.old console.old line.now answer self.new console.new) }
     {
-        if line == b"stage" {
+        if line == b"stage".as_slice() {
             self.draft = Some(Draft::new(alloc));
             return Ok(Next::Go);
         }

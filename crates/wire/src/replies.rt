@@ -12,6 +12,9 @@ use cim_words::NoMemory;
 use room_words::{Fault, Refused, Reply, TraceRows, write_trace_head, write_trace_row};
 use std::alloc::Global;
 
+/// How many bytes of room suffice for every reply of one line: all but a trace.
+pub const REPLY_ROOM: usize = 128;
+
 /// Appends the text of a reply. After want of memory nothing is appended.
 pub fn write_reply(reply: &Reply, into: &mut Vec<u8>) -> Result<(), NoMemory>
     ensures ok { OnOk result (into.new.items ≡ into.old.items ++ reply_text reply.now) }
