@@ -1,8 +1,9 @@
 //! The requests of a session, each with its reply.
 
-ghost use Rattle.std.specs.Prelude.{◌≡◌, ◌+◌, ◌<◌, ◌≤◌, ◌^◌, [], length, None, vec_len, vec_capacity};
+ghost use Rattle.std.specs.Prelude.{◌≡◌, ◌⊎◌, ◌+◌, ◌<◌, ◌≤◌, ◌^◌, [], length, None, vec_len, vec_capacity};
 ghost use Rattle.desk.specs.Ends.{number_of};
 ghost use Rattle.room_words.specs.declared.event.Event.TheVariants as event;
+ghost use Rattle.room_words.specs.declared.reply.Reply.TheVariants as reply;
 ghost use Rattle.session_host.specs.Replies.{AnswersLine, AnswersRequest, CutsOver, Looks, Submits, Traces, staged_after};
 ghost use Rattle.session_host.specs.Told.{Ever, IsTold, KeepsSeat, Replied, StagesDraft, next_of, state_of};
 ghost use Rattle.session_host.specs.Views.{View, view_of};
@@ -207,8 +208,7 @@ fn trace<N: RoomName>(
     phases: PhaseSet,
     out: &mut Vec<u8>,
 ) -> Result<Next, NoMemory>
-    requires looks { length console.old.reader.founds < 2 ^ 63 }
-    requires space { vec_len out.old + reply_room ≤ vec_capacity out.old }
+    requires { length console.old.reader.founds < 2 ^ 63 }
     ensures seat { KeepsSeat console.old console.new }
     ensures answers { Replied result out.old.items out.new.items (λ told. Ever console.old console.new (λ base history.
         Traces base history (number_of console.old) start.number phases (view_of console.old) told (view_of console.new))) }
@@ -217,9 +217,19 @@ fn trace<N: RoomName>(
     let version = console.shown();
     match version.trace_text(alloc, start, phases, out) {
         Ok(()) => Ok(Next::Go),
-        Err(TraceNo::NoSuch) => tell(Reply::NoSuch(version.number()), out),
+        Err(TraceNo::NoSuch) => tell_no_such(version.number(), out),
         Err(TraceNo::NoMemory) => Err(NoMemory),
     }
+}
+
+/// Tells that there is no source, once there is room for that.
+fn tell_no_such(at: u32, out: &mut Vec<u8>) -> Result<Next, NoMemory>
+    ensures { Replied result out.old.items out.new.items (λ told. (told ≡ reply.NoSuch at) ⊎ (told ≡ reply.Memory)) }
+{
+    if out.reserve(REPLY_ROOM).is_err() {
+        return Err(NoMemory);
+    }
+    tell(Reply::NoSuch(at), out)
 }
 
 /// Writes a reply, for which there is room.
