@@ -40,14 +40,24 @@ module _ (T : RattleType) (moves : IsSend T) (shares : IsSync T) where
   layer_sends : (R : RattleType) → IsSend R → IsSync R → IsSend (knot.layer-Node T R R)
   layer_sends R s y =
       let a = arc_sends R s y in
-      declared_send (knot.type-Node T R R) (search sendable depth 20 , (search sendable depth 20 ,
-          (search (sendable, option.the_send, declared_send) depth 20 , (search (sendable, option.the_send) depth 20 , tt))))
+      declared_send (knot.type-Node T R R) (
+        search sendable depth 20,
+        (
+          search sendable depth 20,
+          (search (sendable, option.the_send, declared_send) depth 20, (search (sendable, option.the_send) depth 20, tt)),
+        ),
+      )
 
   layer_syncs : (R : RattleType) → IsSend R → IsSync R → IsSync (knot.layer-Node T R R)
   layer_syncs R s y =
       let a = arc_syncs R s y in
-      declared_sync (knot.type-Node T R R) (search sendable depth 20 , (search sendable depth 20 ,
-          (search (sendable, option.the_sync, declared_sync) depth 20 , (search (sendable, option.the_sync) depth 20 , tt))))
+      declared_sync (knot.type-Node T R R) (
+        search sendable depth 20,
+        (
+          search sendable depth 20,
+          (search (sendable, option.the_sync, declared_sync) depth 20, (search (sendable, option.the_sync) depth 20, tt)),
+        ),
+      )
 
   step_sends : (p : Parts (knot.frame T)) → ((j : the_members) → IsSend (rows (knot.frame T) p j)) →
       ((j : the_members) → IsSync (rows (knot.frame T) p j)) → (i : the_members) → IsSend (rows (knot.frame T) (knot.step T p) i)
@@ -76,37 +86,37 @@ module _ (T : RattleType) (moves : IsSend T) (shares : IsSync T) where
   list_sends =
       let a = arc_sends (Node.the_row T) node_sends node_syncs in
       let f : IsSend (SharedListInside.the_row T) =
-        declared_send (SharedListInside.the_type T) (search (sendable, global.the_send) depth 20 , (search (sendable, option.the_send) depth 20 , tt)) in
+      declared_send (SharedListInside.the_type T) (search (sendable, global.the_send) depth 20, (search (sendable, option.the_send) depth 20, tt)) in
       search (view_send, f)
 
   list_syncs : IsSync (SharedList.the_row T)
   list_syncs =
       let a = arc_syncs (Node.the_row T) node_sends node_syncs in
       let f : IsSync (SharedListInside.the_row T) =
-        declared_sync (SharedListInside.the_type T) (search (sendable, global.the_sync) depth 20 , (search (sendable, option.the_sync) depth 20 , tt)) in
+      declared_sync (SharedListInside.the_type T) (search (sendable, global.the_sync) depth 20, (search (sendable, option.the_sync) depth 20, tt)) in
       search (view_sync, f)
 
 -- what a version holds
 held_sends : IsSend Held.the_row
 held_sends =
     let l = list_sends Entry.the_row entry.the_send entry.the_sync in
-    declared_send Held.the_type (set.the_send , (l , (counts.the_send , (search sendable depth 20 , (index.the_send , (overlay.the_send , (graph.the_send , tt)))))))
+    declared_send Held.the_type (set.the_send, (l, (counts.the_send, (search sendable depth 20, (index.the_send, (overlay.the_send, (graph.the_send, tt)))))))
 
 held_syncs : IsSync Held.the_row
 held_syncs =
     let l = list_syncs Entry.the_row entry.the_send entry.the_sync in
-    declared_sync Held.the_type (set.the_sync , (l , (counts.the_sync , (search sendable depth 20 , (index.the_sync , (overlay.the_sync , (graph.the_sync , tt)))))))
+    declared_sync Held.the_type (set.the_sync, (l, (counts.the_sync, (search sendable depth 20, (index.the_sync, (overlay.the_sync, (graph.the_sync, tt)))))))
 
 -- a version may move to another thread
 pub version_sends : IsSend Version.the_row
 version_sends =
     let a = arc_sends Held.the_row held_sends held_syncs in
-    let f : IsSend VersionInside.the_row = declared_send VersionInside.the_type (a , tt) in
+    let f : IsSend VersionInside.the_row = declared_send VersionInside.the_type (a, tt) in
     search (view_send, f)
 
 -- threads may share a version
 pub version_syncs : IsSync Version.the_row
 version_syncs =
     let a = arc_syncs Held.the_row held_sends held_syncs in
-    let f : IsSync VersionInside.the_row = declared_sync VersionInside.the_type (a , tt) in
+    let f : IsSync VersionInside.the_row = declared_sync VersionInside.the_type (a, tt) in
     search (view_sync, f)
