@@ -1,3 +1,4 @@
 mod Replying
 mod Seeing
 mod Talked
+mod Tracing

@@ -1,7 +1,9 @@
 -- How replies are told.
-use Rattle.std.proofs.Common.{◌≡◌, ℕ, List, [], ◌++◌, Option, None, Some, Result, Ok, Err, inl, inr, refl, subst}
+use Rattle.std.proofs.Common.{◌≡◌, ℕ, List, [], ◌++◌, Option, None, Some, Result, Ok, Err, inl, inr, refl, subst, sym, Bool, true, false}
 use Rattle.std.specs.declared.alloc.AllocError.{AllocError}
 use Rattle.cim_words.specs.declared.statement.Statement.{Statement}
+use Rattle.difference.specs.declared.fault.DiffFault.{DiffFault}
+use Rattle.difference.specs.declared.fault.DiffFault.TheVariants as diff
 use Rattle.line_serve.specs.AnsweredLines.{Answer}
 use Rattle.line_serve.specs.declared.answerer.Next.{Next}
 use Rattle.room_words.specs.Differences.{Changes}
@@ -9,10 +11,13 @@ use Rattle.room_words.specs.declared.event.Entry.{Entry}
 use Rattle.room_words.specs.declared.fault.Fault.{Fault}
 use Rattle.room_words.specs.declared.reply.Reply.{Reply}
 use Rattle.room_words.specs.declared.reply.Reply.TheVariants as reply
-use Rattle.session_host.specs.Exchanges.{answer_of}
+use Rattle.room_words.specs.declared.fault.Fault.TheVariants as fault
+use Rattle.room_words.specs.declared.stage_fault.StageFault.{StageFault}
+use Rattle.session_host.specs.Exchanges.{When, answer_of}
 use Rattle.session_host.specs.Replies.{AnswersLine, AnswersRequest, CutsOver}
-use Rattle.session_host.specs.Told.{Answered, IsTold, Replied, next_of}
-use Rattle.session_host.specs.Views.{SessionState}
+use Rattle.session_host.specs.Told.{Answered, IsTold, Replied, StagesDraft, TalkState, TellsFault, next_of}
+use Rattle.session_host.specs.Views.{SessionState, View}
+use Rattle.staging.specs.Documents.{HasFault}
 use Rattle.wire.specs.Replies.{reply_text}
 use Rattle.wire.specs.Requests.{IsRequest, IsRequestFault}
 use Rattle.wire.specs.declared.request.Request.{Request}
@@ -60,3 +65,28 @@ module _ (base : List Statement) (history : List Entry) (console : ℕ) (before 
   request_for_memory request.Stage = refl
   request_for_memory request.Cutover = cut_over_for_memory before.staged refl
   request_for_memory request.Bye = (inr refl, refl)
+
+-- what a request is answered, where that is known which one it is
+pub request_so : (base : List Statement) (history : List Entry) (console : ℕ) (asked r : Request) (before : SessionState) (told : Reply) (after : SessionState) →
+    asked ≡ r → AnswersRequest base history console [] r before told after → AnswersRequest base history console [] asked before told after
+request_so base history console asked r before told after is = subst (λ (one : Request). AnswersRequest base history console [] one before told after) (sym is)
+
+-- a test that holds, and one that does not
+pub when_true : (Yes No : Type 0) (test : Bool) → test ≡ true → Yes → When test Yes No
+when_true Yes No test is = subst (λ (b : Bool). When b Yes No) (sym is)
+
+pub when_false : (Yes No : Type 0) (test : Bool) → test ≡ false → No → When test Yes No
+when_false Yes No test is = subst (λ (b : Bool). When b Yes No) (sym is)
+
+-- a session with another draft
+abbrev pub with_draft : TalkState → Option (Option (Option (List ℕ))) → TalkState
+with_draft talk draft = record { staged = talk.staged; draft = draft }
+
+-- what a document is told that is not staged
+pub faulted : (kept : Option (List ℕ)) (why : DiffFault) → ((bad : StageFault) → why ≡ diff.Stage bad → HasFault kept bad) →
+    (state : SessionState) (told : Reply) → TellsFault why told → StagesDraft (Some kept) state told state
+faulted kept (diff.Stage bad) faults state told is = subst (λ (r : Reply). StagesDraft (Some kept) state r state) (sym is) (faults bad refl, refl)
+faulted kept diff.NoMemory faults state told is = subst (λ (r : Reply). StagesDraft (Some kept) state r state) (sym is) refl
+
+abbrev pub staging : View → Changes → SessionState
+staging view d = record { view = view; staged = Some d }

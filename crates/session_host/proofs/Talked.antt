@@ -43,6 +43,27 @@ pub record Laws : Type 0 where
   pub fault : (text : List ℕ) (bad : StageFault) → HasFault (kept text) bad → IsFault text bad
   pub stage : IsRequest false stage_line request.Stage
 
+-- what a draft stages is what a document stages that is read as what is kept of it
+pub staged_by : (text : Option (List ℕ)) (document : List ℕ) → ((d : Changes) → Says text d → IsDocument document d) →
+    ((bad : StageFault) → HasFault text bad → IsFault document bad) → (before : SessionState) (told : Reply) (after : SessionState) →
+    StagesDraft (Some text) before told after → Stages document before told after
+staged_by text document says faults before (reply.Staged pre rev fwd) after is = (is.0, says is.0 is.1, is.2, is.3, is.4, is.5)
+staged_by text document says faults before (reply.Fault (fault.Stage bad)) after is = (faults bad is.0, is.1)
+staged_by text document says faults before reply.Memory after is = is
+staged_by text document says faults before (reply.Ok number) after is = absurd is
+staged_by text document says faults before (reply.No refused) after is = absurd is
+staged_by text document says faults before (reply.NoSuch at) after is = absurd is
+staged_by text document says faults before (reply.Seen at) after is = absurd is
+staged_by text document says faults before (reply.Trace at rows) after is = absurd is
+staged_by text document says faults before reply.Bye after is = absurd is
+staged_by text document says faults before (reply.Fault fault.Word) after is = absurd is
+staged_by text document says faults before (reply.Fault fault.Count) after is = absurd is
+staged_by text document says faults before (reply.Fault (fault.Field k)) after is = absurd is
+staged_by text document says faults before (reply.Fault fault.Staged) after is = absurd is
+staged_by text document says faults before (reply.Fault fault.Prefix) after is = absurd is
+staged_by text document says faults before (reply.Fault fault.Console) after is = absurd is
+staged_by text document says faults before (reply.Fault fault.Long) after is = absurd is
+
 module _ (laws : Laws) where
   -- a line that is taken is taken of the document
   held : (draft taken : Option (Option (List ℕ))) (begun : List (List ℕ)) (line : List ℕ) → Holds draft begun → TakesLine draft line taken →
@@ -51,25 +72,9 @@ module _ (laws : Laws) where
   held draft taken begun line (inl is) (inl took) = inl (took ∙ (ap (λ d. with_line d line) is ∙ ap Some (laws.more begun line)))
   held draft taken begun line (inr is) (inl took) = inr (took ∙ ap (λ d. with_line d line) is)
 
-  -- what a draft stages is what its document stages
   staged_kept : (begun : List (List ℕ)) (before : SessionState) (told : Reply) (after : SessionState) →
       StagesDraft (Some (kept (document_text begun))) before told after → Stages (document_text begun) before told after
-  staged_kept begun before (reply.Staged pre rev fwd) after is = (is.0, laws.says (document_text begun) is.0 is.1, is.2, is.3, is.4, is.5)
-  staged_kept begun before (reply.Fault (fault.Stage bad)) after is = (laws.fault (document_text begun) bad is.0, is.1)
-  staged_kept begun before reply.Memory after is = is
-  staged_kept begun before (reply.Ok number) after is = absurd is
-  staged_kept begun before (reply.No refused) after is = absurd is
-  staged_kept begun before (reply.NoSuch at) after is = absurd is
-  staged_kept begun before (reply.Seen at) after is = absurd is
-  staged_kept begun before (reply.Trace at rows) after is = absurd is
-  staged_kept begun before reply.Bye after is = absurd is
-  staged_kept begun before (reply.Fault fault.Word) after is = absurd is
-  staged_kept begun before (reply.Fault fault.Count) after is = absurd is
-  staged_kept begun before (reply.Fault (fault.Field k)) after is = absurd is
-  staged_kept begun before (reply.Fault fault.Staged) after is = absurd is
-  staged_kept begun before (reply.Fault fault.Prefix) after is = absurd is
-  staged_kept begun before (reply.Fault fault.Console) after is = absurd is
-  staged_kept begun before (reply.Fault fault.Long) after is = absurd is
+  staged_kept begun = staged_by (kept (document_text begun)) (document_text begun) (laws.says (document_text begun)) (laws.fault (document_text begun))
 
   staged_none : (text : List ℕ) (before : SessionState) (told : Reply) (after : SessionState) →
       StagesDraft None before told after → Stages text before told after

@@ -5,6 +5,8 @@ use Rattle.std.specs.declared.alloc.AllocError.{AllocError}
 use Rattle.board.specs.Lists.{IsPrefix}
 use Rattle.cim_words.specs.declared.statement.Statement.{Statement}
 use Rattle.desk.specs.Ends.{PostState, number_of}
+use Rattle.difference.specs.declared.fault.DiffFault.{DiffFault}
+use Rattle.difference.specs.declared.fault.DiffFault.TheVariants as diff
 use Rattle.line_serve.specs.AnsweredLines.{Answer}
 use Rattle.line_serve.specs.declared.answerer.Next.{Next}
 use Rattle.line_serve.specs.declared.answerer.Next.TheVariants as next
@@ -83,6 +85,11 @@ StagesDraft (Some kept) before (reply.Staged pre rev fwd) after =
 StagesDraft (Some kept) before (reply.Fault (fault.Stage bad)) after = HasFault kept bad × (after ≡ before)
 StagesDraft draft before reply.Memory after = after ≡ before
 StagesDraft draft before _ after = ⊥
+
+-- A document is not staged: it has a fault, which is told, or memory did not suffice.
+abbrev pub TellsFault : DiffFault → Reply → Type 0
+TellsFault (diff.Stage bad) told = told ≡ reply.Fault (fault.Stage bad)
+TellsFault diff.NoMemory told = told ≡ reply.Memory
 
 -- A line outside a document begins one, or is a request.
 abbrev pub TalksOutside : TalkState → Post → List ℕ → Answer → TalkState → Post → Type 0

@@ -5,7 +5,7 @@ ghost use Rattle.desk.specs.Ends.{number_of};
 ghost use Rattle.room_words.specs.declared.event.Event.TheVariants as event;
 ghost use Rattle.room_words.specs.declared.reply.Reply.TheVariants as reply;
 ghost use Rattle.session_host.specs.Replies.{AnswersLine, AnswersRequest, CutsOver, Looks, Submits, Traces, staged_after};
-ghost use Rattle.session_host.specs.Told.{Ever, IsTold, KeepsSeat, Replied, StagesDraft, next_of, state_of};
+ghost use Rattle.session_host.specs.Told.{Ever, IsTold, KeepsSeat, Replied, StagesDraft, TellsFault, next_of, state_of};
 ghost use Rattle.session_host.specs.Views.{View, view_of};
 ghost use Rattle.wire.specs.Replies.{IsBrief, reply_room};
 
@@ -179,9 +179,19 @@ impl<L: Ledger> Talk<L> {
                 self.staged = Some(shared);
                 tell(reply, out)
             }
-            Err(DiffFault::Stage(fault)) => tell(Reply::Fault(Fault::Stage(fault)), out),
-            Err(DiffFault::NoMemory) => Err(NoMemory),
+            Err(fault) => tell_fault(fault, out),
         }
+    }
+}
+
+/// Tells why a document is not staged, for which there is room.
+fn tell_fault(fault: DiffFault, out: &mut Vec<u8>) -> Result<Next, NoMemory>
+    requires { vec_len out.old + reply_room ≤ vec_capacity out.old }
+    ensures { Replied result out.old.items out.new.items (TellsFault fault) }
+{
+    match fault {
+        DiffFault::Stage(fault) => tell(Reply::Fault(Fault::Stage(fault)), out),
+        DiffFault::NoMemory => Err(NoMemory),
     }
 }
 

@@ -1,0 +1,27 @@
+use Rattle.std.proofs.Common.{◌≡◌, ◌∙◌, List, ℕ, length, Option, Some, Err, refl, sym, ap, subst}
+use Rattle.room_words.specs.Differences.{Changes}
+use Rattle.room_words.specs.declared.fault.Fault.TheVariants as fault
+use Rattle.room_words.specs.declared.reply.Reply.TheVariants as reply
+use Rattle.session_host.proofs.Replying.{faulted, replied, replied_so, staging}
+use Rattle.session_host.specs.Told.{IsTold, Replied, StagesDraft, TellsFault}
+use Rattle.session_host.specs.Views.{SessionState}
+use Rattle.session_host.proofs.talk.Talk.stage.Goals as goal
+
+pub returns-in-Ok-clause-staged : goal.returns-in-Ok-clause-staged
+returns-in-Ok-clause-staged g c view =
+    let told = reply.Staged c.len.result c.len-in-Ok.result c.len-in-Ok-2.result in
+    replied told c.tell.result c.args.out.now.items c.tell.new.out.items
+      (λ told. StagesDraft c.args.draft (record { view = view; staged = c.args.self.now.staged }) told (record { view = view; staged = Some c.in-Ok-of.shared }))
+      (subst (λ (old : List ℕ). IsTold told c.tell.result old c.tell.new.out.items) c.reserve.ensures.items c.tell.ensures)
+      (subst (λ (draft : Option (Option (List ℕ))). StagesDraft draft (record { view = view; staged = c.args.self.now.staged }) told (record { view = view; staged = Some c.in-Ok-of.shared }))
+        (sym c.in-Some.ensures.some)
+        (c.in-Ok.difference, c.in-Ok.ensures.ok, c.len.ensures ∙ ap length c.pre.ensures, c.len-in-Ok.ensures ∙ ap length c.rev.ensures,
+          c.len-in-Ok-2.ensures ∙ ap length c.fwd.ensures, ap (λ (d : Changes). staging view d) c.in-Ok-of.ensures))
+
+pub returns-in-Err-clause-staged : goal.returns-in-Err-clause-staged
+returns-in-Err-clause-staged g c view =
+    let state : SessionState = record { view = view; staged = c.args.self.now.staged } in
+    replied_so c.tell_fault.result c.args.out.now.items c.tell_fault.new.out.items (TellsFault c.in-Err.fault) (λ told. StagesDraft c.args.draft state told state)
+      (λ told tells. subst (λ (draft : Option (Option (List ℕ))). StagesDraft draft state told state) (sym c.in-Some.ensures.some)
+        (faulted c.in-Some.document.now c.in-Err.fault (λ bad is. c.in-Err.ensures.fault bad (ap Err is)) state told tells))
+      (subst (λ (old : List ℕ). Replied c.tell_fault.result old c.tell_fault.new.out.items (TellsFault c.in-Err.fault)) c.reserve.ensures.items c.tell_fault.ensures)
