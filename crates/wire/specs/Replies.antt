@@ -82,3 +82,12 @@ reply_text (reply.Staged pre rev fwd) = words_line (codes "staged") (decimal pre
 reply_text (reply.Fault f) = words_line (codes "fault") (fault_words f)
 reply_text reply.Memory = words_line (codes "memory") []
 reply_text reply.Bye = words_line (codes "bye") []
+
+-- a reply of one line: all but a trace
+abbrev pub IsBrief : Reply → Type 0
+IsBrief (reply.Trace at rows) = ⊥
+IsBrief _ = Unit {0}
+
+-- how many bytes of room suffice for a reply of one line
+abbrev pub reply_room : ℕ
+reply_room = 128

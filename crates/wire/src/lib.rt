@@ -15,6 +15,6 @@ mod written_words;
 pub use cim_words::NoMemory;
 pub use entries::write_entry;
 pub use laws::{a_stage_is_one_word, requests_have_one_reading, written_acts_are_read};
-pub use replies::write_reply;
+pub use replies::{REPLY_ROOM, write_reply};
 pub use request::Request;
 pub use requests::read_request;
