@@ -1,4 +1,5 @@
 pub mod FaultLaws
+mod InputLaws
 pub mod NoteLaws
 mod ShelfReads
 pub mod SinkLaws

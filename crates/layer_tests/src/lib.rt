@@ -4,6 +4,10 @@
 #[cfg(test)]
 mod boards;
 #[cfg(test)]
+mod doors;
+#[cfg(test)]
+mod links;
+#[cfg(test)]
 mod lists;
 #[cfg(test)]
 mod overlays;
@@ -15,3 +19,5 @@ mod sets;
 mod shared_pages;
 #[cfg(test)]
 mod shelves;
+#[cfg(test)]
+mod talks;

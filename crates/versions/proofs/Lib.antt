@@ -1,4 +1,5 @@
 pub mod Agreeing
+pub mod BetweenThreads
 pub mod Counting
 pub mod OneJudgement
 pub mod OneNetwork

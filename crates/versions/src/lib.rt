@@ -2,6 +2,7 @@
 #![tactic(auto)]
 
 mod advances;
+mod crossing;
 mod held;
 mod laws;
 mod limits;

@@ -1,0 +1,3 @@
+pub mod AnsweredLines
+pub mod Parts
+pub mod Served
