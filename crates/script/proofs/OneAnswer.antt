@@ -26,7 +26,8 @@ use Rattle.script.specs.Answers.{Answers, AnswersConsole, AnswersRequest, AreAns
 use Rattle.script.specs.Lines.{Asks, NamesNoConsole, behind_console}
 use Rattle.script.specs.Played.{IsPlayed}
 use Rattle.script.specs.Rehearsal.{RehearsalState, at_start, seen_past, staged_by, with_staged}
-use Rattle.script.specs.Turns.{Turn, document_text, turns_of}
+use Rattle.script.specs.Turns.{Turn, turns_of}
+use Rattle.staging.specs.Documents.{document_text}
 use Rattle.versions.specs.History.{IsNow, Judges, Network}
 use Rattle.versions.specs.Traced.{HasNoSource, IsTraceOf}
 use Rattle.wire.specs.Entries.{history_text}

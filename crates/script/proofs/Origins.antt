@@ -9,7 +9,8 @@ use Rattle.room_words.specs.Differences.{Changes}
 use Rattle.room_words.specs.declared.event.Event.TheVariants as event
 use Rattle.script.specs.Answers.{Answers, AnswersConsole, AnswersRequest, AreAnswered, CutsOver}
 use Rattle.script.specs.Rehearsal.{RehearsalState, staged_by}
-use Rattle.script.specs.Turns.{Turn, document_text}
+use Rattle.script.specs.Turns.{Turn}
+use Rattle.staging.specs.Documents.{document_text}
 use Rattle.versions.specs.History.{Judges}
 use Rattle.wire.specs.declared.request.Request.{Request}
 use Rattle.wire.specs.declared.request.Request.TheVariants as request

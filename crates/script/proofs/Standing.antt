@@ -1,60 +1,22 @@
 -- Where the playing of a script stands between two lines.
-use Rattle.std.proofs.Common.{◌≡◌, ℕ, ◌+◌, ◌<◌, ◌≤◌, List, [], ◌∷◌, ◌++◌, length, Option, Some, None, Bool, true, false, if◌then◌else◌, inl, inr, refl, sym, ap, subst, ◌∙◌, append_assoc, append-nil, arith, nat_lt, flat_map}
-use Rattle.std.proofs.lemmas.List.{length-append}
-use Rattle.std.proofs.lemmas.Grind.{flat_map-append}
-use Rattle.std.proofs.lemmas.Bool.{false_from_ne_true, lt-ltb, ltb-true}
-use Rattle.cim_words.specs.Written.{line_feed}
-use Rattle.desk.specs.Consoles.{IsConsole}
-use Rattle.difference.specs.Document.{IsDocument}
-use Rattle.difference.specs.Faults.{IsFault}
-use Rattle.room_words.specs.Differences.{Changes, most_bytes}
-use Rattle.room_words.specs.declared.stage_fault.StageFault.{StageFault}
-use Rattle.room_words.specs.declared.stage_fault.StageWord.TheVariants as stage
+use Rattle.std.proofs.Common.{◌≡◌, ℕ, List, [], ◌∷◌, ◌++◌, Option, Some, None, inl, inr, refl, sym, ap, subst, ◌∙◌, append_assoc, append-nil}
 use Rattle.script.specs.Answers.{Answers, AreAnswered, Stages}
 use Rattle.script.specs.Lines.{Asks, behind_console, stage_word}
 use Rattle.script.specs.Rehearsal.{RehearsalState}
-use Rattle.script.specs.Staging.{Begins, Ends, GoesOn, HasFault, Says, Staged, StagesKept, Takes, kept, more_kept, with_more}
-use Rattle.script.specs.Turns.{Turn, alone, closes, document_text, is_skipped, opens, turns_from, with_line}
+use Rattle.script.specs.Staging.{Begins, Ends, GoesOn, Staged, StagesKept, Takes, with_more}
+use Rattle.script.specs.Turns.{Turn, alone, is_skipped, opens, turns_from, with_line}
+use Rattle.staging.specs.Documents.{HasFault, Says, closes, document_text, kept, more_kept}
+use Rattle.staging.proofs.Kept.{kept_fault, kept_more, kept_says}
 use Rattle.wire.specs.Requests.{IsRequest}
 use Rattle.wire.specs.declared.request.Request.TheVariants as request
 
 -- ---- documents
 
--- a document of one line more
-document_more : (lines : List (List ℕ)) (line : List ℕ) → document_text (lines ++ line ∷ []) ≡ document_text lines ++ line ++ line_feed ∷ []
-document_more lines line =
-    flat_map-append (λ (l : List ℕ). l ++ line_feed ∷ []) lines (line ∷ []) ∙ ap (λ (rest : List ℕ). document_text lines ++ rest) (append-nil (line ++ line_feed ∷ []))
-    ∙ sym (append_assoc (document_text lines) line (line_feed ∷ []))
-
-kept_by : (text : List ℕ) (b : Bool) → nat_lt most_bytes (length text) ≡ b → kept text ≡ (if b then None else Some text)
-kept_by text b is = rw is refl
-
--- what is kept of a document that goes on is what is kept of the longer one
-kept_more : (lines : List (List ℕ)) (line : List ℕ) → more_kept (kept (document_text lines)) line ≡ kept (document_text (lines ++ line ∷ []))
-kept_more lines line = by (nat_lt most_bytes (length (document_text lines))) refl ∙ ap kept (sym (document_more lines line))
-  where
-    text : List ℕ
-    text = document_text lines
-
-    by : (b : Bool) → nat_lt most_bytes (length text) ≡ b → more_kept (kept text) line ≡ kept (text ++ line ++ line_feed ∷ [])
-    by true is =
-        let long : most_bytes < length text = ltb-true most_bytes (length text) is in
-        let ended : length (text ++ line ++ line_feed ∷ []) ≡ length (text ++ line) + 1 = length-append (text ++ line) (line_feed ∷ []) in
-        let size : length (text ++ line) ≡ length text + length line = length-append text line in
-        let longer : most_bytes < length (text ++ line ++ line_feed ∷ []) = omega (arith, long, size, ended) in
-        rw (kept_by text true is, kept_by (text ++ line ++ line_feed ∷ []) true (lt-ltb _ _ longer)) refl
-    by false is = rw (kept_by text false is) refl
-
 -- what is kept of a document says what the document says
 module _ (before after : RehearsalState) (staged : Staged) (document told : List ℕ) where
-  said : staged.text ≡ kept document → (b : Bool) → nat_lt most_bytes (length document) ≡ b → StagesKept before staged told after → Stages before staged.console document told after
-  said same true is (inl x) = let none : staged.text ≡ None = same ∙ kept_by document true is in absurd (subst (λ (text : Option (List ℕ)). Says text x.0) none x.1)
-  said same true is (inr x) =
-      let none : staged.text ≡ None = same ∙ kept_by document true is in
-      let bad : x.0 ≡ record { line = 0; word = stage.TooLong } = subst (λ (text : Option (List ℕ)). HasFault text x.0) none x.1 in
-      inr (x.0, subst (IsFault document) (sym bad) (refl, inl (ltb-true most_bytes (length document) is)), x.2)
-  said same false is (inl x) = let some : staged.text ≡ Some document = same ∙ kept_by document false is in inl (x.0, subst (λ (text : Option (List ℕ)). Says text x.0) some x.1, x.2, x.3)
-  said same false is (inr x) = let some : staged.text ≡ Some document = same ∙ kept_by document false is in inr (x.0, subst (λ (text : Option (List ℕ)). HasFault text x.0) some x.1, x.2)
+  said : staged.text ≡ kept document → StagesKept before staged told after → Stages before staged.console document told after
+  said same (inl x) = inl (x.0, kept_says document x.0 (subst (λ (text : Option (List ℕ)). Says text x.0) same x.1), x.2, x.3)
+  said same (inr x) = inr (x.0, kept_fault document x.0 (subst (λ (text : Option (List ℕ)). HasFault text x.0) same x.1), x.2)
 
 -- ---- turns
 
@@ -95,7 +57,7 @@ turn_staged law before after staged begun told asks same stages =
       told,
       asks,
       refl,
-      inl (request.Stage, law, said before after staged (document_text begun.document) told same (nat_lt most_bytes (length (document_text begun.document))) refl stages),
+      inl (request.Stage, law, said before after staged (document_text begun.document) told same stages),
     ))
 
 module _ (law : StageIsRead) (start : RehearsalState) (lines : List (List ℕ)) where

@@ -19,7 +19,8 @@ use Rattle.room_words.specs.declared.reply.Reply.TheVariants as reply
 use Rattle.room_words.specs.declared.stage_fault.StageFault.{StageFault}
 use Rattle.script.specs.Lines.{Asks, NamesNoConsole, behind_console}
 use Rattle.script.specs.Rehearsal.{RehearsalState, seen_past, staged_by, with_staged}
-use Rattle.script.specs.Turns.{Turn, document_text}
+use Rattle.script.specs.Turns.{Turn}
+use Rattle.staging.specs.Documents.{document_text}
 use Rattle.versions.specs.History.{Judges}
 use Rattle.versions.specs.Traced.{HasNoSource, IsTraceOf}
 use Rattle.wire.specs.Replies.{reply_text}

@@ -1,17 +1,14 @@
--- A document that is being staged: what is kept of it, line by line.
-use Rattle.std.specs.Prelude.{ℕ, ◌≡◌, ◌⊎◌, List, [], ◌∷◌, ◌++◌, length, Option, Some, None, true, false, Bool, if◌then◌else◌, nat_lt, codes}
-use Rattle.cim_words.specs.Written.{line_feed}
-use Rattle.difference.specs.Document.{IsDocument}
-use Rattle.difference.specs.Faults.{IsFault}
-use Rattle.room_words.specs.Differences.{Changes, most_bytes}
+-- A document that a console is staging, and how its lines are taken.
+use Rattle.std.specs.Prelude.{ℕ, ◌≡◌, ◌⊎◌, List, [], length, Option, Some, None, true, false}
+use Rattle.room_words.specs.Differences.{Changes}
 use Rattle.room_words.specs.declared.fault.Fault.TheVariants as fault
 use Rattle.room_words.specs.declared.reply.Reply.TheVariants as reply
 use Rattle.room_words.specs.declared.stage_fault.StageFault.{StageFault}
-use Rattle.room_words.specs.declared.stage_fault.StageWord.TheVariants as word
 use Rattle.script.specs.Answers.{Answers, AnswersConsole, Tells}
 use Rattle.script.specs.Lines.{Asks, behind_console, stage_word}
 use Rattle.script.specs.Rehearsal.{RehearsalState, with_staged}
-use Rattle.script.specs.Turns.{alone, closes, is_skipped, opens}
+use Rattle.script.specs.Turns.{alone, is_skipped, opens}
+use Rattle.staging.specs.Documents.{HasFault, Says, closes, more_kept}
 use Rattle.wire.specs.Replies.{reply_text}
 
 -- the console of a document, and its bytes; those of one that is too long are dropped
@@ -19,26 +16,11 @@ pub record Staged : Type 0 where
   pub console : ℕ
   pub text : Option (List ℕ)
 
-abbrev pub kept : List ℕ → Option (List ℕ)
-kept text = if nat_lt most_bytes (length text) then None else Some text
-
--- what is kept after one more line
-abbrev pub more_kept : Option (List ℕ) → List ℕ → Option (List ℕ)
-more_kept None line = None
-more_kept (Some text) line = kept (text ++ line ++ line_feed ∷ [])
-
+-- the same after one more line
 abbrev pub with_more : Staged → List ℕ → Staged
 with_more staged line = record { console = staged.console; text = more_kept staged.text line }
 
--- what is kept says a difference, or has a fault
-abbrev pub Says : Option (List ℕ) → Changes → Type 0
-Says (Some text) d = IsDocument text d
-Says None d = ⊥
-
-abbrev pub HasFault : Option (List ℕ) → StageFault → Type 0
-HasFault (Some text) bad = IsFault text bad
-HasFault None bad = bad ≡ record { line = 0; word = word.TooLong }
-
+-- What is kept is staged in place of what its console had staged, or it has a fault and changes nothing.
 abbrev pub StagesKept : RehearsalState → Staged → List ℕ → RehearsalState → Type 0
 StagesKept before staged text after =
     ((d : Changes) × Says staged.text d × (text ≡ reply_text (reply.Staged (length d.pre) (length d.rev) (length d.fwd)))

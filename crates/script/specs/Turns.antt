@@ -1,14 +1,11 @@
 -- The turns of a script, of this project: each line that asks something, with the document that it stages.
-use Rattle.std.specs.Prelude.{ℕ, List, [], ◌∷◌, ◌++◌, length, take, drop, Option, Some, None, Bool, true, ◌==◌, ◌&&◌, if◌then◌else◌}
-use Rattle.std.specs.List.{flat_map, list_all, list_any, range_with_len}
+use Rattle.std.specs.Prelude.{ℕ, List, [], ◌∷◌, ◌++◌, Option, Some, None, Bool, true, ◌==◌, if◌then◌else◌}
+use Rattle.std.specs.List.{list_any, range_with_len}
 use Rattle.std.specs.Str.{bytes_eq}
-use Rattle.cim_words.specs.Written.{line_feed}
 use Rattle.desk.specs.Consoles.{most_consoles}
 use Rattle.nt_text.specs.Document.{lines_of}
-use Rattle.nt_text.specs.Grammar.{is_blank}
-use Rattle.room_words.specs.Differences.{heading_text}
-use Rattle.room_words.specs.declared.heading.Heading.TheVariants as heading
 use Rattle.script.specs.Lines.{behind_console, stage_word}
+use Rattle.staging.specs.Documents.{closes}
 
 -- whether a line says nothing: it is empty, or begins with `#`
 abbrev pub is_skipped : List ℕ → Bool
@@ -25,12 +22,6 @@ stage_line console = behind_console console (stage_word)
 -- whether a document begins after a line: a console stages one
 unfoldable pub opens : List ℕ → Bool
 opens line = list_any (λ console. bytes_eq line (stage_line console)) consoles
-
--- whether a document ends with a line: its last heading stands there, with spaces and tabs after it at will
-unfoldable pub closes : List ℕ → Bool
-closes line =
-    bytes_eq (take (length (heading_text heading.End)) line) (heading_text heading.End)
-    && list_all is_blank (drop (length (heading_text heading.End)) line)
 
 -- a line that asks something, and the lines of the document after it
 pub record Turn : Type 0 where
@@ -58,7 +49,3 @@ turns_from (Some begun) (line ∷ lines) =
 -- the turns of a script
 abbrev pub turns_of : List ℕ → List Turn
 turns_of script = turns_from None (lines_of script)
-
--- the bytes of a staged document: each line with a line feed as its end
-abbrev pub document_text : List (List ℕ) → List ℕ
-document_text = flat_map (λ line. line ++ line_feed ∷ [])

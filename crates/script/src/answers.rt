@@ -7,8 +7,8 @@ ghost use Rattle.script.specs.Answers.{AnswersRequest, CutsOver, Steps as IsStep
 ghost use Rattle.script.specs.Rehearsal.{staged_by};
 ghost use Rattle.script.specs.Staging.{StagesKept};
 
+use crate::open_document::Staging;
 use crate::rehearsal::Rehearsal;
-use crate::staging::Staging;
 use board::Dated;
 use cim_words::{Id, NoMemory, PhaseSet};
 use difference::DiffFault;

@@ -6,10 +6,10 @@ mod fault;
 mod history;
 mod laws;
 mod line;
+mod open_document;
 mod output;
 mod playing;
 mod rehearsal;
-mod staging;
 mod turns;
 
 pub use cim_words::NoMemory;

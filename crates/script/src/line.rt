@@ -1,11 +1,9 @@
 //! The lines of a script, outside documents and inside one.
 
 ghost use Rattle.std.specs.Prelude.{◌≡◌, ◌++◌, [], ℕ, List, IfSome, IfNone, OnOk};
-ghost use Rattle.std.specs.List.{list_all};
 ghost use Rattle.desk.specs.Consoles.{IsConsole};
-ghost use Rattle.nt_text.specs.Grammar.{is_blank};
 ghost use Rattle.script.specs.Lines.{behind_console};
-ghost use Rattle.script.specs.Turns.{closes, is_skipped};
+ghost use Rattle.script.specs.Turns.{is_skipped};
 
 use cim_words::NoMemory;
 use desk::MOST_CONSOLES;
@@ -66,24 +64,6 @@ fn mark(console: u8) -> &'static str
         16 => "c16 ",
         _ => unreachable!(),
     }
-}
-
-/// Whether a document ends with a line.
-#[tactic(auto, unfolding(crate::specs::Turns::closes))]
-pub(crate) fn closes(line: &[u8]) -> bool
-    ensures { result ≡ closes line.now }
-{
-    match line.strip_prefix(b"%end") {
-        Some(gap) => is_gap(gap),
-        None => false,
-    }
-}
-
-/// Whether there are spaces and tabs alone.
-fn is_gap(bytes: &[u8]) -> bool
-    ensures { result ≡ list_all is_blank bytes.now }
-{
-    bytes.iter().all(|byte| matches!(byte, b' ' | b'\t'))
 }
 
 /// Appends the mark of a console, which stands before its replies.

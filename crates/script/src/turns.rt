@@ -6,12 +6,13 @@ ghost use Rattle.script.specs.Answers.{AnswersConsole, told_to_none};
 ghost use Rattle.script.specs.Lines.{behind_console};
 ghost use Rattle.script.specs.Staging.{Begins, Ends, GoesOn, Hears, StagesKept, Takes};
 
-use crate::line::{asked, closes, is_skipped, write_console};
+use crate::line::{asked, is_skipped, write_console};
+use crate::open_document::Staging;
 use crate::rehearsal::Rehearsal;
-use crate::staging::Staging;
 use cim_words::NoMemory;
 use nt_text::LINE_LIMIT;
 use room_words::{Fault, Reply};
+use staging::ends_document;
 use std::sync::ledger::Ledger;
 use wire::{read_request, write_reply};
 
@@ -89,7 +90,7 @@ impl<L: Ledger> Rehearsal<L> {
     {
         let mut staging = staging;
         staging.add(line)?;
-        if !closes(line) {
+        if !ends_document(line) {
             return Ok(Some(staging));
         }
         self.close(staging, into)?;

@@ -90,3 +90,7 @@ faulted kept diff.NoMemory faults state told is = subst (λ (r : Reply). StagesD
 
 abbrev pub staging : View → Changes → SessionState
 staging view d = record { view = view; staged = Some d }
+
+-- a session outside documents that has staged this
+abbrev pub with_staged : Option Changes → TalkState
+with_staged staged = record { staged = staged; draft = None }

@@ -1,6 +1,6 @@
 -- A line that stages a document is one word.
 use Rattle.std.proofs.Common.{◌≡◌, ℕ, List, [], ◌∷◌, ◌++◌, Bool, take, drop, inl, refl, sym, ap, ◌∙◌, take-append-drop, append-nil}
-use Rattle.std.specs.List.{position_or_len, slice_split}
+use Rattle.std.specs.List.{position_or_len}
 use Rattle.wire.specs.Reading.{fields_of}
 use Rattle.wire.specs.Requests.{IsRequest, request_word}
 use Rattle.wire.specs.Values.{AreSpelled}

@@ -1,9 +1,10 @@
 //! The words by which refusals and faults are told.
 
-ghost use Rattle.std.specs.Prelude.{◌≡◌, ◌++◌, [], ◌∷◌, length, take, OnOk, OnErr};
+ghost use Rattle.std.specs.Prelude.{◌≡◌, ◌+◌, ◌≤◌, ◌++◌, [], ◌∷◌, length, take, OnOk, OnErr};
 ghost use Rattle.std.specs.Fmt.{decimal};
 ghost use Rattle.cim_words.specs.IdText.{id_text};
 ghost use Rattle.wire.specs.Replies.{act_words, diff_words, fault_words, stage_word, why_words};
+ghost use Rattle.wire.specs.Room.{Fits};
 ghost use Rattle.wire.specs.Words.{spaced};
 
 use crate::written_words::{write_id, write_number, write_word};
@@ -14,6 +15,7 @@ use room_words::{ActRefusal, DiffRefusal, Fault, StageWord, Why};
 pub(crate) fn write_why(why: &Why, into: &mut Vec<u8>) -> Result<(), NoMemory>
     ensures ok { OnOk result (into.new.items ≡ into.old.items ++ spaced (why_words why.now)) }
     ensures err { OnErr result (take (length into.old.items) into.new.items ≡ into.old.items) }
+    ensures room { Fits 70 into.old into.new result }
 {
     match *why {
         Why::Act(refusal) => write_act_refusal(refusal, into),
@@ -26,6 +28,7 @@ pub(crate) fn write_why(why: &Why, into: &mut Vec<u8>) -> Result<(), NoMemory>
 fn write_act_refusal(refusal: ActRefusal, into: &mut Vec<u8>) -> Result<(), NoMemory>
     ensures ok { OnOk result (into.new.items ≡ into.old.items ++ spaced (act_words refusal)) }
     ensures err { OnErr result (take (length into.old.items) into.new.items ≡ into.old.items) }
+    ensures room { Fits 50 into.old into.new result }
 {
     match refusal {
         ActRefusal::Unknown(id) => write_named("Unknown", id, into),
@@ -49,6 +52,7 @@ fn write_act_refusal(refusal: ActRefusal, into: &mut Vec<u8>) -> Result<(), NoMe
 fn write_diff_refusal(refusal: DiffRefusal, into: &mut Vec<u8>) -> Result<(), NoMemory>
     ensures ok { OnOk result (into.new.items ≡ into.old.items ++ spaced (diff_words refusal)) }
     ensures err { OnErr result (take (length into.old.items) into.new.items ≡ into.old.items) }
+    ensures room { Fits 70 into.old into.new result }
 {
     match refusal {
         DiffRefusal::Precondition(place) => {
@@ -68,6 +72,7 @@ fn write_diff_refusal(refusal: DiffRefusal, into: &mut Vec<u8>) -> Result<(), No
 pub(crate) fn write_fault(fault: Fault, into: &mut Vec<u8>) -> Result<(), NoMemory>
     ensures ok { OnOk result (into.new.items ≡ into.old.items ++ spaced (fault_words fault)) }
     ensures err { OnErr result (take (length into.old.items) into.new.items ≡ into.old.items) }
+    ensures room { Fits 40 into.old into.new result }
 {
     match fault {
         Fault::Word => write_word(b"Word", into),
@@ -86,7 +91,8 @@ pub(crate) fn write_fault(fault: Fault, into: &mut Vec<u8>) -> Result<(), NoMemo
 
 /// The name of what is wrong with a staged document.
 fn name_of(word: StageWord) -> &'static str
-    ensures { result.now ≡ stage_word word }
+    ensures text { result.now ≡ stage_word word }
+    ensures short { length result.now ≤ 11 }
 {
     match word {
         StageWord::TooLong => "TooLong",
@@ -106,6 +112,7 @@ fn name_of(word: StageWord) -> &'static str
 fn write_named(name: &str, id: Id, into: &mut Vec<u8>) -> Result<(), NoMemory>
     ensures ok { OnOk result (into.new.items ≡ into.old.items ++ spaced (name.now ∷ id_text id.number ∷ [])) }
     ensures err { OnErr result (take (length into.old.items) into.new.items ≡ into.old.items) }
+    ensures room { Fits (length name.now + 38) into.old into.new result }
 {
     write_word(name.as_bytes(), into)?;
     write_id(id, into)
@@ -115,6 +122,7 @@ fn write_named(name: &str, id: Id, into: &mut Vec<u8>) -> Result<(), NoMemory>
 fn write_counted(name: &str, number: u64, into: &mut Vec<u8>) -> Result<(), NoMemory>
     ensures ok { OnOk result (into.new.items ≡ into.old.items ++ spaced (name.now ∷ decimal number ∷ [])) }
     ensures err { OnErr result (take (length into.old.items) into.new.items ≡ into.old.items) }
+    ensures room { Fits (length name.now + 22) into.old into.new result }
 {
     write_word(name.as_bytes(), into)?;
     write_number(number, into)
@@ -124,6 +132,7 @@ fn write_counted(name: &str, number: u64, into: &mut Vec<u8>) -> Result<(), NoMe
 fn write_numbers(name: &str, one: u64, other: u64, into: &mut Vec<u8>) -> Result<(), NoMemory>
     ensures ok { OnOk result (into.new.items ≡ into.old.items ++ spaced (name.now ∷ decimal one ∷ decimal other ∷ [])) }
     ensures err { OnErr result (take (length into.old.items) into.new.items ≡ into.old.items) }
+    ensures room { Fits (length name.now + 43) into.old into.new result }
 {
     write_counted(name, one, into)?;
     write_number(other, into)

@@ -17,11 +17,3 @@ returns-in-Ok-clause-staged g c view =
         (sym c.in-Some.ensures.some)
         (c.in-Ok.difference, c.in-Ok.ensures.ok, c.len.ensures ∙ ap length c.pre.ensures, c.len-in-Ok.ensures ∙ ap length c.rev.ensures,
           c.len-in-Ok-2.ensures ∙ ap length c.fwd.ensures, ap (λ (d : Changes). staging view d) c.in-Ok-of.ensures))
-
-pub returns-in-Err-clause-staged : goal.returns-in-Err-clause-staged
-returns-in-Err-clause-staged g c view =
-    let state : SessionState = record { view = view; staged = c.args.self.now.staged } in
-    replied_so c.tell_fault.result c.args.out.now.items c.tell_fault.new.out.items (TellsFault c.in-Err.fault) (λ told. StagesDraft c.args.draft state told state)
-      (λ told tells. subst (λ (draft : Option (Option (List ℕ))). StagesDraft draft state told state) (sym c.in-Some.ensures.some)
-        (faulted c.in-Some.document.now c.in-Err.fault (λ bad is. c.in-Err.ensures.fault bad (ap Err is)) state told tells))
-      (subst (λ (old : List ℕ). Replied c.tell_fault.result old c.tell_fault.new.out.items (TellsFault c.in-Err.fault)) c.reserve.ensures.items c.tell_fault.ensures)

@@ -1,36 +1,33 @@
-//! A document that is being staged.
+//! A document that is open, and the console that stages it.
 
 ghost use Rattle.std.specs.Prelude.{◌≡◌, [], Some, Err, IfOk, OnOk};
 ghost use Rattle.desk.specs.Consoles.{IsConsole};
 ghost use Rattle.difference.specs.declared.fault.DiffFault.TheVariants.{Stage as stage};
 ghost use Rattle.room_words.specs.declared.stage_fault.StageFault.{StageFault};
-ghost use Rattle.script.specs.Staging.{HasFault, Says, with_more};
+ghost use Rattle.script.specs.Staging.{with_more};
+ghost use Rattle.staging.specs.Documents.{HasFault, Says};
 
 use cim_words::NoMemory;
-use difference::{DiffFault, read};
-use room_words::{Difference, StageFault, StageWord};
+use difference::DiffFault;
+use room_words::Difference;
+use staging::Document;
 use std::alloc::Global;
 use std::marker::Model;
 
-/// The most bytes that a document may have.
-const MOST_BYTES: usize = 67_108_864;
-
-/// The document that a console stages, as far as its lines have come. The bytes of one that is too long are dropped.
+/// The document that a console stages, as far as its lines have come.
 #[derive(Drop)]
 pub(crate) struct Staging {
     console: u8,
-    text: Vec<u8>,
-    is_too_long: bool,
+    document: Document,
 }
 
 impl Model for Staging {
-    ghost use Rattle.std.specs.Prelude.{None, Some, if◌then◌else◌};
     ghost use Rattle.desk.specs.Consoles.{IsConsole};
     ghost use Rattle.script.specs.Staging.{Staged};
 
     ghost Value = { Staged };
 
-    ghost view = { λ s. record { console = s.console; text = if s.is_too_long then None else Some s.text.items } };
+    ghost view = { λ s. record { console = s.console; text = s.document } };
 
     ghost invariant = { λ s. IsConsole s.console };
 }
@@ -43,8 +40,7 @@ impl Staging {
     {
         Staging {
             console,
-            text: Vec::new(alloc),
-            is_too_long: false,
+            document: Document::new(alloc),
         }
     }
 
@@ -60,17 +56,7 @@ impl Staging {
     pub(crate) fn add(&mut self, line: &[u8]) -> Result<(), NoMemory>
         ensures { OnOk result (self.new ≡ with_more self.old line.now) }
     {
-        if self.is_too_long {
-            return Ok(());
-        }
-        if MOST_BYTES - self.text.len().min(MOST_BYTES) <= line.len() {
-            self.is_too_long = true;
-            self.text = Vec::new(*self.text.allocator());
-            return Ok(());
-        }
-        self.text.extend_from_slice(line)?;
-        self.text.push(b'\n')?;
-        Ok(())
+        self.document.add(line)
     }
 
     /// The difference that it says.
@@ -78,12 +64,6 @@ impl Staging {
         ensures ok { IfOk result (Says self.now.text) }
         ensures fault { (bad : StageFault) → result ≡ Err (stage bad) → HasFault self.now.text bad }
     {
-        if self.is_too_long {
-            return Err(DiffFault::Stage(StageFault {
-                line: 0,
-                word: StageWord::TooLong,
-            }));
-        }
-        read(alloc, &self.text)
+        self.document.read(alloc)
     }
 }
