@@ -135,6 +135,13 @@ module _ (laws : Laws) where
         let once : length (post is.2.0).reader.founds ≤ length (post before).reader.founds + 1 = seat.looks in
         omega (arith, rest, once, length-append (l.came ++ line_feed ∷ []) (bytes_of ls), length-append l.came (line_feed ∷ []))
 
+    -- what each line keeps is kept by all of them
+    pub kept_through : {X : Type 0} (f : A → X) → ((before : A) (line : List ℕ) (answer : Answer) (after : A) → answers before line answer after → f after ≡ f before) →
+        (ls : List AnsweredLine) (before after : A) → lines.AreAnswered answers before ls after → f after ≡ f before
+    kept_through f keeps [] before after is = ap f (sym is)
+    kept_through f keeps (l ∷ ls) before after is =
+        kept_through f keeps ls is.2.0 after is.2.2 ∙ keeps before (without_return l.came) l.answer is.2.0 is.2.1
+
     module _ (base : List Statement) (history : List Entry) where
       -- lines that make up exchanges, which are answered from a state to a last one
       abbrev Made : ℕ → Option (List (List ℕ)) → List AnsweredLine → SessionState → SessionState → Type 0

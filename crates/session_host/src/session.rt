@@ -16,11 +16,13 @@ use desk::RoomName;
 use grid_out::{Gate, Link};
 use line_serve::{Answerer, LineRoom, LinesEnd, Next, serve_lines};
 use room_console::{Console, Room};
+use staging::kept_documents_are_read;
 use std::alloc::Global;
 use std::marker::Brand;
 use std::sync::Wait;
 use std::sync::ledger::{Blank, Ledger};
 use versions::Version;
+use wire::a_stage_is_one_word;
 
 /// How a session ended.
 pub use line_serve::LinesEnd as SessionEnd;
@@ -107,5 +109,30 @@ fn serve_counted<R: Wait, N: RoomName, L: Link, G: Gate, S: Ledger>(
         gate,
         talk: Talk::<S>::new(blank),
     };
-    serve_lines(rt, alloc, link, &mut session, lines)
+    serve_all(rt, alloc, link, &mut session, lines)
+}
+
+/// Answers all lines of a session that begins.
+fn serve_all<R: Wait, N: RoomName, L: Link, G: Gate, S: Ledger>(
+    rt: &R,
+    alloc: Global,
+    link: &mut L,
+    session: &mut Session<'_, N, G, S>,
+    lines: &mut LineRoom,
+) -> SessionEnd
+    requires looks { length session.old.console.now.reader.founds + most_input ≤ 2 ^ 63 }
+    requires begins { session.old.talk ≡ record { staged = None; draft = None } }
+    ensures same { session.new.console.ghost_name ≡ session.old.console.ghost_name }
+    ensures heard { (base : List Statement) → session.old.console.now.reader.origin ≡ Some base → IsHeard base (number_of session.old.console.now)
+        (view_of session.old.console.now) result (view_of session.new.console.now)
+        (record { left = L.left link.old; written = L.written link.old })
+        (record { left = L.left link.new; written = L.written link.new }) }
+    ensures seated { StaysSeated session.old.console.now session.new.console.now }
+    ensures nothing_left { LeavesNothing result (L.left link.old) (L.left link.new) }
+    ensures read_cause { CountsFaults (L.read_faults link.old) (L.read_faults link.new) (is_read_fault result) }
+    ensures write_cause { CountsFaults (L.write_faults link.old) (L.write_faults link.new) (is_write_fault result) }
+{
+    a_stage_is_one_word();
+    kept_documents_are_read();
+    serve_lines(rt, alloc, link, session, lines)
 }

@@ -1,6 +1,8 @@
 //! What a session keeps between its lines.
 
 ghost use Rattle.std.specs.Prelude.{◌≡◌, ◌<◌, ◌^◌, length, None};
+ghost use Rattle.std.specs.Str.{bytes_eq};
+ghost use Rattle.session_host.specs.Exchanges.{stage_line};
 ghost use Rattle.session_host.specs.Told.{Answered, KeepsSeat, Talks, TalksOutside, TalksWithin};
 
 use crate::draft::Draft;
@@ -97,7 +99,7 @@ impl<L: Ledger> Talk<L> {
         ensures seat { KeepsSeat console.old console.new }
         ensures answers { Answered result out.old.items out.new.items (λ answer. TalksOutside self.old console.old line.now answer self.new console.new) }
     {
-        if line == b"stage".as_slice() {
+        if begins_document(line) {
             self.draft = Some(Draft::new(alloc));
             return Ok(Next::Go);
         }
@@ -127,4 +129,11 @@ impl<L: Ledger> Talk<L> {
         self.pass(rt, gate, console.console());
         self.stage(alloc, draft, out)
     }
+}
+
+/// Whether a document begins after a line.
+fn begins_document(line: &[u8]) -> bool
+    ensures { result ≡ bytes_eq line.now stage_line }
+{
+    line == b"stage".as_slice()
 }

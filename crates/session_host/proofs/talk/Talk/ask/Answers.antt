@@ -13,4 +13,4 @@ returns-in-Err-clause-answers g c =
       (λ told. Ever c.args.console.now c.args.console.now (λ base history.
         AnswersLine base history (number_of c.args.console.now) c.args.line.now [] (state_of c.args.self.now c.args.console.now) told (state_of c.args.self.now c.args.console.now)))
       (subst (λ (old : List ℕ). IsTold told c.tell.result old c.tell.new.out.items) c.reserve.ensures.items c.tell.ensures)
-      (λ base began history more. inr (c.in-Err.fault, c.in-Err.ensures.fault, inl refl, refl))
+      (λ base began history more. inr (c.in-Err.fault, c.in-Err.ensures.fault, (inl refl, refl)))

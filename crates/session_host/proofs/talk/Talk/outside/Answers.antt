@@ -22,7 +22,7 @@ returns-clause-answers g c =
       (λ told. Ever c.args.console.now c.ask.new.console (λ base history.
         AnswersLine base history (number_of c.args.console.now) c.args.line.now [] (state_of c.pass.new.self c.args.console.now) told (state_of c.ask.new.self c.ask.new.console)))
       (λ answer. TalksOutside c.args.self.now c.args.console.now c.args.line.now answer c.ask.new.self c.ask.new.console)
-      (λ told p. when_false _ _ (bytes_eq c.args.line.now stage_line) ?
+      (λ told p. when_false _ _ (bytes_eq c.args.line.now stage_line) (sym c.begins_document.ensures ∙ c.if-begins_document.false)
         (told, refl, c.ask.ensures.draft ∙ (ap (λ (t : TalkState). t.draft) same ∙ c.requires.no_draft),
           subst (λ (t : TalkState). Ever c.args.console.now c.ask.new.console (λ base history.
             AnswersLine base history (number_of c.args.console.now) c.args.line.now [] (state_of t c.args.console.now) told (state_of c.ask.new.self c.ask.new.console))) same p))
