@@ -64,6 +64,11 @@ staged_by text document says faults before (reply.Fault fault.Prefix) after is =
 staged_by text document says faults before (reply.Fault fault.Console) after is = absurd is
 staged_by text document says faults before (reply.Fault fault.Long) after is = absurd is
 
+-- a line is answered by something that talks for a post, and keeps its name
+abbrev pub Answering : {A X : Type 0} → (A → TalkState) → (A → Post) → (A → X) → A → List ℕ → Answer → A → Type 0
+Answering talk post name before line answer after =
+    Talks (talk before) (post before) line answer (talk after) (post after) × KeepsSeat (post before) (post after) × (name after ≡ name before)
+
 module _ (laws : Laws) where
   -- a line that is taken is taken of the document
   held : (draft taken : Option (Option (List ℕ))) (begun : List (List ℕ)) (line : List ℕ) → Holds draft begun → TakesLine draft line taken →

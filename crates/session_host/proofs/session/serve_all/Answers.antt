@@ -1,6 +1,6 @@
 use Rattle.std.proofs.Common.{◌≡◌, ℕ, ◌+◌, ◌≤◌, false, List, length, Option, Some, None, ap, sym, subst, arith, length-append}
 use Rattle.line_serve.specs.AnsweredLines.{bytes_of}
-use Rattle.session_host.proofs.Talked.{Begun, Laws, begins_through, kept_through, looks_through, make_up}
+use Rattle.session_host.proofs.Talked.{Answering, Begun, Laws, begins_through, kept_through, looks_through, make_up}
 use Rattle.session_host.specs.Exchanges.{AreAnswered}
 use Rattle.session_host.specs.Told.{Post, TalkState, state_of}
 use Rattle.session_host.specs.Views.{SessionState}
@@ -19,7 +19,7 @@ returns-clause-same g c =
         fault = c.kept_documents_are_read.ensures.fault;
         stage = c.a_stage_is_one_word.ensures.stage false;
       } in
-    kept_through laws {A = Session g.row.N.Denot g.row.G.Denot g.row.S.Denot} (λ s. s.talk) (λ s. s.console.now) _ (λ b l a f is. (is.0, is.1))
+    kept_through laws {A = Session g.row.N.Denot g.row.G.Denot g.row.S.Denot} (λ s. s.talk) (λ s. s.console.now) (Answering (λ s. s.talk) (λ s. s.console.now) (λ s. s.console.ghost_name)) (λ b l a f is. (is.0, is.1))
       (λ s. s.console.ghost_name) (λ b l a f is. is.2) served.lines c.args.session.now c.serve_lines.new.answerer served.answered
 
 pub returns-clause-heard : goal.returns-clause-heard
@@ -32,7 +32,7 @@ returns-clause-heard g c base began history more =
         fault = c.kept_documents_are_read.ensures.fault;
         stage = c.a_stage_is_one_word.ensures.stage false;
       } in
-    let made = make_up laws {A = Session g.row.N.Denot g.row.G.Denot g.row.S.Denot} (λ s. s.talk) (λ s. s.console.now) _ (λ b l a f is. (is.0, is.1)) base history
+    let made = make_up laws {A = Session g.row.N.Denot g.row.G.Denot g.row.S.Denot} (λ s. s.talk) (λ s. s.console.now) (Answering (λ s. s.talk) (λ s. s.console.now) (λ s. s.console.ghost_name)) (λ b l a f is. (is.0, is.1)) base history
         served.lines None c.args.session.now c.serve_lines.new.answerer (subst (λ (t : TalkState). Begun t.draft None) (sym c.requires.begins) tt) served.answered began more in
     record {
       lines = served.lines;
@@ -58,17 +58,17 @@ returns-clause-seated g c =
         fault = c.kept_documents_are_read.ensures.fault;
         stage = c.a_stage_is_one_word.ensures.stage false;
       } in
-    let looked = looks_through laws {A = Session g.row.N.Denot g.row.G.Denot g.row.S.Denot} (λ s. s.talk) (λ s. s.console.now) _ (λ b l a f is. (is.0, is.1))
+    let looked = looks_through laws {A = Session g.row.N.Denot g.row.G.Denot g.row.S.Denot} (λ s. s.talk) (λ s. s.console.now) (Answering (λ s. s.talk) (λ s. s.console.now) (λ s. s.console.ghost_name)) (λ b l a f is. (is.0, is.1))
         served.lines c.args.session.now c.serve_lines.new.answerer served.answered in
     let within = served.within in
     record {
-      console = kept_through laws {A = Session g.row.N.Denot g.row.G.Denot g.row.S.Denot} (λ s. s.talk) (λ s. s.console.now) _ (λ b l a f is. (is.0, is.1))
+      console = kept_through laws {A = Session g.row.N.Denot g.row.G.Denot g.row.S.Denot} (λ s. s.talk) (λ s. s.console.now) (Answering (λ s. s.talk) (λ s. s.console.now) (λ s. s.console.ghost_name)) (λ b l a f is. (is.0, is.1))
         (λ s. s.console.now.reader.console) (λ b l a f is. is.1.console) served.lines c.args.session.now c.serve_lines.new.answerer served.answered;
-      board = kept_through laws {A = Session g.row.N.Denot g.row.G.Denot g.row.S.Denot} (λ s. s.talk) (λ s. s.console.now) _ (λ b l a f is. (is.0, is.1))
+      board = kept_through laws {A = Session g.row.N.Denot g.row.G.Denot g.row.S.Denot} (λ s. s.talk) (λ s. s.console.now) (Answering (λ s. s.talk) (λ s. s.console.now) (λ s. s.console.ghost_name)) (λ b l a f is. (is.0, is.1))
         (λ s. s.console.now.reader.board) (λ b l a f is. is.1.board) served.lines c.args.session.now c.serve_lines.new.answerer served.answered;
-      origin = kept_through laws {A = Session g.row.N.Denot g.row.G.Denot g.row.S.Denot} (λ s. s.talk) (λ s. s.console.now) _ (λ b l a f is. (is.0, is.1))
+      origin = kept_through laws {A = Session g.row.N.Denot g.row.G.Denot g.row.S.Denot} (λ s. s.talk) (λ s. s.console.now) (Answering (λ s. s.talk) (λ s. s.console.now) (λ s. s.console.ghost_name)) (λ b l a f is. (is.0, is.1))
         (λ s. s.console.now.reader.origin) (λ b l a f is. is.1.origin) served.lines c.args.session.now c.serve_lines.new.answerer served.answered;
-      begins = begins_through laws {A = Session g.row.N.Denot g.row.G.Denot g.row.S.Denot} (λ s. s.talk) (λ s. s.console.now) _ (λ b l a f is. (is.0, is.1))
+      begins = begins_through laws {A = Session g.row.N.Denot g.row.G.Denot g.row.S.Denot} (λ s. s.talk) (λ s. s.console.now) (Answering (λ s. s.talk) (λ s. s.console.now) (λ s. s.console.ghost_name)) (λ b l a f is. (is.0, is.1))
         served.lines c.args.session.now c.serve_lines.new.answerer served.answered;
       looks = omega (arith, looked, within, length-append (bytes_of served.lines) served.rest);
     }
