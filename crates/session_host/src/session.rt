@@ -109,7 +109,16 @@ fn serve_counted<R: Wait, N: RoomName, L: Link, G: Gate, S: Ledger>(
         gate,
         talk: Talk::<S>::new(blank),
     };
-    serve_all(rt, alloc, link, &mut session, lines)
+    let ended = serve_all(rt, alloc, link, &mut session, lines);
+    give_back(session);
+    ended
+}
+
+/// The console goes back to whoever lent it, as the session leaves it.
+fn give_back<N: RoomName, G: Gate, S: Ledger>(session: Session<'_, N, G, S>)
+    ensures { session.exit.0.now ≡ session.console.now }
+{
+    drop(session);
 }
 
 /// Answers all lines of a session that begins.
