@@ -1,0 +1,7 @@
+mod BetweenThreads
+mod Counting
+mod Replying
+mod Seeing
+mod Talked
+mod Tracing
+mod Visiting
