@@ -1,12 +1,13 @@
 -- What contracts see of a link and of a door over TCP. All of it is of this project.
 use Rattle.std.specs.Prelude.{ℕ}
 
--- how many faults of reading and of writing a link had
-pub record LinkFaults : Type 0 where
-  pub read : ℕ
-  pub write : ℕ
+-- a link: its stream, and how many faults of reading and of writing there were
+pub record LinkState (S : Type 0) : Type 0 where
+  pub stream : S
+  pub read_faults : ℕ
+  pub write_faults : ℕ
 
--- how many sessions a door still gives, and how many faults it had
+-- a door: how many sessions it still gives, and how many faults there were
 pub record DoorCounts : Type 0 where
   pub number : ℕ
   pub faults : ℕ

@@ -11,12 +11,12 @@ use std::net::{Ipv4Addr, Net, OpenListener, OpenStream, TcpListener};
 /// A door at a port of 127.0.0.1, which gives the agreed number of sessions, one connection each. Which peers come is the outside's:
 /// this door tells no links.
 ///
-/// The port is taken by the first `next` that has a session to give. Before that a peer is refused. From then on a peer connects, and
-/// waits where another one's session goes on. When the last session is given, the port is let go, and peers that come later, or
-/// still wait, are refused; dropping the door lets it go as well.
+/// The port is taken by the first `next` that has a session to give; before that, peers are refused. From then on a peer connects, and
+/// its session begins with the next `next`: while another one's session goes on, it waits. With the last session that is given the port
+/// is let go: peers that come later are refused, and those that still wait are cut off. Dropping the door lets the port go as well.
 ///
-/// `next` fails where the port cannot be taken, as where another program has it, and where the system does not hand a connection over.
-/// Either way no session is lost, and the next call tries again.
+/// `next` waits for a peer as long as none comes. It fails where the port cannot be taken, as where somebody else has it, and where the
+/// system does not hand a connection over. No session is lost by that, and the next call tries again.
 #[derive(Drop)]
 pub struct TcpDoor<'rt, R: Net> {
     rt: &'rt R,
@@ -63,13 +63,13 @@ impl<'rt, R: Net> Door for TcpDoor<'rt, R> {
     ghost lent = { λ _. true };
 
     fn next(&mut self) -> Result<Option<TcpLink<R::Stream>>, Failed> {
-        if self.number == 0 {
+        let Some(left) = self.number.checked_sub(1) else {
             return Ok(None);
-        }
-        match accept(self.rt, self.port, &mut self.listener) {
+        };
+        match accept_at(self.rt, self.port, &mut self.listener) {
             Ok(stream) => {
-                self.number -= 1;
-                if self.number == 0 {
+                self.number = left;
+                if left == 0 {
                     self.listener = None;
                 }
                 Ok(Some(TcpLink::new(stream)))
@@ -88,21 +88,26 @@ impl<'rt, R: Net> Door for TcpDoor<'rt, R> {
 }
 
 /// Waits for a connection at the port, which is taken now if it is not yet.
-fn accept<R: Net>(
+fn accept_at<R: Net>(
     rt: &R,
     port: u16,
     listener: &mut Option<R::Listener>,
 ) -> io::Result<R::Stream> {
-    if listener.is_none() {
-        *listener = Some(TcpListener::bind(rt, (Ipv4Addr::LOCALHOST, port))?);
+    if let Some(open) = listener {
+        return accept(open);
     }
-    match listener {
-        Some(open) => {
-            let (stream, _) = open.accept()?;
-            // Small answers are to leave at once. A stream that refuses this carries them as well, if later.
-            let _ = stream.set_nodelay(true);
-            Ok(stream)
-        }
-        None => Err(io::Error::from(io::ErrorKind::NotConnected)),
-    }
+    let opened = TcpListener::bind(rt, (Ipv4Addr::LOCALHOST, port))?;
+    let accepted = accept(&opened);
+    *listener = Some(opened);
+    accepted
+}
+
+/// Waits for a connection. Small answers are to leave it at once; a stream that refuses this carries them as well, if later.
+fn accept<L: OpenListener>(listener: &L) -> io::Result<L::Stream>
+where
+    L::Stream: OpenStream,
+{
+    let (stream, _) = listener.accept()?;
+    let _ = stream.set_nodelay(true);
+    Ok(stream)
 }

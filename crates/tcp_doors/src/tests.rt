@@ -4,14 +4,15 @@ use crate::TcpDoor;
 use grid_out::{Door, Failed, Link};
 use std::io::{self, Read, Write};
 use std::net::{Ipv4Addr, Net, TcpListener, TcpStream};
-use std::process;
 use std::rt::Clock;
 use std::test::Fail;
-use std::thread;
 use std::time::Duration;
+use std::{process, thread};
 
-/// What the peer sends, and what it is answered.
+/// What the peer sends.
 const ASKED: &[u8; 4] = b"ask\n";
+
+/// What it is answered.
 const ANSWER: &[u8; 7] = b"answer\n";
 
 /// The ports that are tried begin here. The system gives these to nobody that connects, so that a peer which tries to connect to one
@@ -22,8 +23,8 @@ const FIRST_PORT: u16 = 61_000;
 const PORTS: u16 = 20;
 
 /// Takes a port that is free. Where to begin depends on the process, so that two runs do not meet.
-fn take_port<R: Net>(rt: &R, process: u32) -> io::Result<(u16, R::Listener)> {
-    let first = FIRST_PORT + (process % 4_000) as u16;
+fn take_port<R: Net>(rt: &R, process_id: u32) -> io::Result<(u16, R::Listener)> {
+    let first = FIRST_PORT + (process_id % 4_000) as u16;
     let mut last = io::Error::from(io::ErrorKind::AddrInUse);
     for more in 0..PORTS {
         let port = first + more;
@@ -35,7 +36,8 @@ fn take_port<R: Net>(rt: &R, process: u32) -> io::Result<(u16, R::Listener)> {
     Err(last)
 }
 
-/// Reads what the peer asks, answers it and reads to the end. Whether it asked as it was to, and no other session is given.
+/// Reads what the peer asks, answers it and reads to the end. Whether the peer asked what it was to ask, and the door then gives no
+/// other session.
 fn serve<D: Door>(door: &mut D) -> Result<bool, Failed> {
     let Some(mut link) = door.next()? else {
         return Err(Failed);
@@ -77,11 +79,15 @@ fn door_gives_the_sessions_that_were_agreed(rt: HostRuntime) -> Result<(), Fail>
     let (port, taken) = take_port(&rt, process::id(rt.process()))?;
     let rt = &rt;
     let mut door = TcpDoor::new(rt, port, 1);
+    // The port is not the door's yet, and then it is.
     assert!(rt; door.next().is_err());
     drop(taken);
-    let door = &mut door;
-    let (served, answered) = thread::join(rt, move || serve(door), move || ask(rt, port));
+    let open = &mut door;
+    let (served, answered) = thread::join(rt, move || serve(open), move || ask(rt, port));
     assert!(rt; answered?);
     assert!(rt; served?);
+    // The door is there, and has let the port go.
+    assert!(rt; TcpStream::connect(rt, (Ipv4Addr::LOCALHOST, port)).is_err());
+    drop(door);
     Ok(())
 }
