@@ -2,16 +2,16 @@
 use Rattle.std.proofs.Common.{◌≡◌, ℕ, List, [], ◌++◌, Option, inl, inr, refl, sym, ap, subst, ◌∙◌, append_assoc, append-nil}
 use Rattle.cim_words.specs.declared.statement.Statement.{Statement}
 use Rattle.desk.specs.Legal.{IsLegal}
+use Rattle.history_writer.specs.Sending.{Breaks, OutputState, Sends, StopsAt}
+use Rattle.history_writer.specs.declared.fault.OutFault.{OutFault}
+use Rattle.history_writer.specs.declared.fault.OutFault.TheVariants as fault
 use Rattle.nt_text.specs.Document.{lines_of}
 use Rattle.room_words.specs.declared.event.Entry.{Entry}
 use Rattle.script.specs.Answers.{AreAnswered}
 use Rattle.script.specs.Played.{IsFront, IsPlayed}
 use Rattle.script.specs.Rehearsal.{RehearsalState, at_start}
-use Rattle.history_writer.specs.Sending.{Breaks, OutputState, Sends, StopsAt}
 use Rattle.script.specs.Staging.{Staged}
 use Rattle.script.specs.Turns.{Turn, turns_from, turns_of}
-use Rattle.history_writer.specs.declared.fault.OutFault.{OutFault}
-use Rattle.history_writer.specs.declared.fault.OutFault.TheVariants as fault
 use Rattle.versions.specs.History.{Judges}
 use Rattle.wire.specs.Entries.{history_text}
 use Rattle.history_writer.proofs.KeptBack.{HoldsBack, holds_broken, stops_after}

@@ -2,10 +2,10 @@
 
 ghost use Rattle.std.specs.Prelude.{◌≡◌, ◌++◌, List, ℕ, IfErr, IfOk, OnOk};
 ghost use Rattle.cim_model.specs.Profile.{IsFaultless};
+ghost use Rattle.history_writer.specs.Sending.{Sends, StopsAt, output};
 ghost use Rattle.script.specs.Played.{IsFront, IsPlayed};
 ghost use Rattle.script.specs.Rehearsal.{at_start, RehearsalState};
 ghost use Rattle.script.specs.Answers.{AreAnswered};
-ghost use Rattle.history_writer.specs.Sending.{Sends, StopsAt, output};
 ghost use Rattle.script.specs.Turns.{Turn, turns_of};
 
 use crate::rehearsal::Rehearsal;

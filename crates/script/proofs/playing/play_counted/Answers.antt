@@ -2,15 +2,15 @@ use Rattle.std.proofs.Common.{◌≡◌, ◌++◌, [], List, subst, ap, ◌∙�
 use Rattle.std.proofs.lemmas.Result.{IfErr-weaker, on_ok_weaker}
 use Rattle.cim_words.specs.declared.statement.Statement.{Statement}
 use Rattle.desk.specs.Legal.{IsLegal}
+use Rattle.history_writer.specs.Sending.{OutputState, output}
+use Rattle.history_writer.specs.declared.fault.OutFault.TheVariants as fault
 use Rattle.script.specs.Answers.{AreAnswered}
 use Rattle.script.specs.Rehearsal.{RehearsalState, at_start}
-use Rattle.history_writer.specs.Sending.{OutputState, output}
 use Rattle.script.specs.Turns.{turns_of}
-use Rattle.history_writer.specs.declared.fault.OutFault.TheVariants as fault
 use Rattle.versions.specs.History.{Judges}
 use Rattle.history_writer.proofs.KeptBack.{stopped}
-use Rattle.script.proofs.Origins.{turns_keep}
 use Rattle.history_writer.proofs.Sending.{sends_none}
+use Rattle.script.proofs.Origins.{turns_keep}
 use Rattle.script.proofs.Stopping.{Stops, front_of_history, front_of_none, front_of_turns, played}
 use Rattle.script.proofs.playing.play_counted.Goals as goal
 
