@@ -27,8 +27,9 @@ pub fn write_history<K: Sink>(newest: &Version, kept: Vec<u8>, out: &mut K) -> R
         × StopsAt fault (output (K.written out.old) (K.faults out.old) (K.handed out.old)) (output (K.written out.new) (K.faults out.new) (K.handed out.new)) front) }
 {
     let mut text = kept;
-    write_head(newest.number(), &mut text)?;
-    for index in 0..newest.number() {
+    let entries = newest.number();
+    write_head(entries, &mut text)?;
+    for index in 0..entries {
         write_entry(index + 1, newest.entry(index), &mut text)?;
         flush_full(&mut text, out)?;
     }

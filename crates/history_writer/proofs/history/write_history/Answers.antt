@@ -12,7 +12,7 @@ returns-in_err-write_head-clause-fault g c =
 
 pub loop-index-init : goal.loop-index-init
 loop-index-init g c =
-    holds_all _ _ _ (told_first c.args.kept.items c.args.newest.now.log _ c.number.result c.number.ensures c.in_ok-write_head.ensures)
+    holds_all _ _ _ (told_first c.args.kept.items c.args.newest.now.log _ c.number-entries.result c.number-entries.ensures c.in_ok-write_head.ensures)
 
 pub returns-in_err-write_entry-clause-fault : goal.returns-in_err-write_entry-clause-fault
 returns-in_err-write_entry-clause-fault g c =
@@ -24,7 +24,7 @@ returns-in_err-flush_full-clause-fault g c =
     let kept = c.args.kept.items in
     let log = c.args.newest.now.log in
     let at = c.loop-index.index in
-    let step = told_step kept log at c.entry.result.now (omega (arith, c.loop-index-test.true, c.number-index-end.ensures)) c.entry.ensures in
+    let step = told_step kept log at c.entry.result.now (omega (arith, c.loop-index-test.true, c.number-entries.ensures)) c.entry.ensures in
     let more = told_front kept log (at + 1) in
     let holds = holds_more c.loop-index.invariant (entry_text (at + 1) c.entry.result.now) c.write_entry.new.into.items (told_of kept log (at + 1)) c.in_ok-write_entry.ensures.ok step in
     stopped _ c.from_residual-in_err-flush_full.result fault.WriteFault c.from_residual-in_err-flush_full.ensures.1
@@ -35,7 +35,7 @@ loop-index-preserved g c =
     let kept = c.args.kept.items in
     let log = c.args.newest.now.log in
     let at = c.loop-index.index in
-    let step = told_step kept log at c.entry.result.now (omega (arith, c.loop-index-test.true, c.number-index-end.ensures)) c.entry.ensures in
+    let step = told_step kept log at c.entry.result.now (omega (arith, c.loop-index-test.true, c.number-entries.ensures)) c.entry.ensures in
     let holds = holds_more c.loop-index.invariant (entry_text (at + 1) c.entry.result.now) c.write_entry.new.into.items (told_of kept log (at + 1)) c.in_ok-write_entry.ensures.ok step in
     holds_less holds _ _ c.in_ok-flush_full.ensures.ok
 
@@ -43,7 +43,7 @@ pub returns-in_err-flush-clause-fault : goal.returns-in_err-flush-clause-fault
 returns-in_err-flush-clause-fault g c =
     let kept = c.args.kept.items in
     let log = c.args.newest.now.log in
-    let all : length log ≤ c.loop-index.index = omega (arith, c.loop-index-test.false, c.number-index-end.ensures) in
+    let all : length log ≤ c.loop-index.index = omega (arith, c.loop-index-test.false, c.number-entries.ensures) in
     let whole = kept ++ history_text log in
     stopped _ c.from_residual-in_err-flush.result fault.WriteFault c.from_residual-in_err-flush.ensures.1
     (whole, [], append-nil whole, holds_broken (holds_same c.loop-index.invariant whole (told_last kept log c.loop-index.index all)) _ c.in_err-flush.ensures.failed)
@@ -52,5 +52,5 @@ pub returns-clause-ok : goal.returns-clause-ok
 returns-clause-ok g c =
     let kept = c.args.kept.items in
     let log = c.args.newest.now.log in
-    let all : length log ≤ c.loop-index.index = omega (arith, c.loop-index-test.false, c.number-index-end.ensures) in
+    let all : length log ≤ c.loop-index.index = omega (arith, c.loop-index-test.false, c.number-entries.ensures) in
     holds_none (holds_same c.loop-index.invariant (kept ++ history_text log) (told_last kept log c.loop-index.index all)) _ c.in_ok-flush.ensures.ok
