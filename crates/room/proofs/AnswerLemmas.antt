@@ -5,7 +5,7 @@ use Rattle.grid_out.specs.Shelf.{AsksFor}
 use Rattle.grid_out.specs.Sink.{Gains, Hands}
 use Rattle.grid_out.proofs.NoteLaws.{grows_nothing}
 use Rattle.grid_out.proofs.SinkLaws.{gains_nothing}
-use Rattle.script.specs.Sending.{OutputState}
+use Rattle.history_writer.specs.Sending.{OutputState}
 use Rattle.room.specs.Base.{IsBase, RefusesBase}
 use Rattle.room.specs.Ending.{IsSaid, IsDone, IsTold, IsUntold, ending}
 use Rattle.room.specs.Files.{AreContents, RefusesFiles}

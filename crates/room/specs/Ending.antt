@@ -1,7 +1,7 @@
 -- How a command ends once its files were read: with a status, when some of its text went to the output; or refused, when none did.
 use Rattle.std.specs.Prelude.{ℕ, ◌≡◌, List, Option, Result, Ok, Err, Bool, true, false}
 use Rattle.cim_words.specs.declared.statement.Statement.{Statement}
-use Rattle.script.specs.Sending.{OutputState}
+use Rattle.history_writer.specs.Sending.{OutputState}
 use Rattle.room.specs.Base.{IsBase, RefusesBase}
 use Rattle.room.specs.Run.{Answers, HandsTask, IsFrontOf, IsHanded, RefusesTask, Tells, Writes}
 use Rattle.room.specs.Status.{status_of}

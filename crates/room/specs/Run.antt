@@ -8,9 +8,10 @@ use Rattle.cim_words.specs.declared.phases.PhaseSet.{PhaseSet}
 use Rattle.cim_words.specs.declared.statement.Statement.{Statement}
 use Rattle.grid_out.specs.Faults.{Rose}
 use Rattle.grid_out.specs.Sink.{Gains, GainsPrefix, Hands}
+use Rattle.history_writer.specs.Sending.{HandsText}
 use Rattle.room_words.specs.Overlay.{no_overlay}
 use Rattle.room_words.specs.TraceText.{trace_text}
-use Rattle.script.specs.Played.{HandsText, IsFront, IsPlayed}
+use Rattle.script.specs.Played.{IsFront, IsPlayed}
 use Rattle.room.specs.declared.refusal.BaseRefusal.{BaseRefusal}
 use Rattle.room.specs.declared.refusal.BaseRefusal.TheVariants as of_base
 use Rattle.room.specs.declared.refusal.Refusal.{Refusal}

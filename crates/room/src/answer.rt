@@ -3,10 +3,10 @@
 ghost use Rattle.std.specs.Prelude.{◌≡◌, ℕ, List, map, string_bytes, IfOk, IfErr, OnErr};
 ghost use Rattle.grid_out.specs.Faults.{CountsFaults};
 ghost use Rattle.grid_out.specs.Shelf.{AsksFor};
+ghost use Rattle.history_writer.specs.Sending.{output};
 ghost use Rattle.room.specs.Ending.{IsSaid, ending};
 ghost use Rattle.room.specs.Refusal.{IfRefusal};
 ghost use Rattle.room.specs.Run.{AreNames, Explains, is_read_fault};
-ghost use Rattle.script.specs.Sending.{output};
 
 use crate::command::command;
 use crate::commands::perform;

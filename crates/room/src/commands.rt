@@ -1,11 +1,11 @@
 //! The commands, each in a file of its own, over the files that were read.
 
 ghost use Rattle.std.specs.Prelude.{◌≡◌, ◌≤◌, length, IfOk, IfErr, IsSome, OnErr};
+ghost use Rattle.history_writer.specs.Sending.{output};
 ghost use Rattle.room.specs.Base.{base_limit};
 ghost use Rattle.room.specs.Ending.{IsTold, IsUntold};
 ghost use Rattle.room.specs.Files.{further_contents};
 ghost use Rattle.room.specs.Refusal.{IfRefusal};
-ghost use Rattle.script.specs.Sending.{output};
 
 mod check;
 mod play;

@@ -1,10 +1,7 @@
 pub mod Consoles
 pub mod Hearing
-pub mod Histories
-pub mod KeptBack
 pub mod OneAnswer
 pub mod Opening
 pub mod Origins
-pub mod Sending
 pub mod Standing
 pub mod Stopping

@@ -2,23 +2,24 @@
 use Rattle.std.proofs.Common.{◌≡◌, ℕ, List, [], ◌++◌, Option, inl, inr, refl, sym, ap, subst, ◌∙◌, append_assoc, append-nil}
 use Rattle.cim_words.specs.declared.statement.Statement.{Statement}
 use Rattle.desk.specs.Legal.{IsLegal}
+use Rattle.history_writer.specs.Sending.{Breaks, OutputState, Sends, StopsAt}
+use Rattle.history_writer.specs.declared.fault.OutFault.{OutFault}
+use Rattle.history_writer.specs.declared.fault.OutFault.TheVariants as fault
 use Rattle.nt_text.specs.Document.{lines_of}
+use Rattle.room_words.specs.declared.event.Entry.{Entry}
 use Rattle.script.specs.Answers.{AreAnswered}
 use Rattle.script.specs.Played.{IsFront, IsPlayed}
 use Rattle.script.specs.Rehearsal.{RehearsalState, at_start}
-use Rattle.script.specs.Sending.{Breaks, OutputState, Sends, StopsAt}
 use Rattle.script.specs.Staging.{Staged}
 use Rattle.script.specs.Turns.{Turn, turns_from, turns_of}
-use Rattle.script.specs.declared.fault.PlayFault.{PlayFault}
-use Rattle.script.specs.declared.fault.PlayFault.TheVariants as fault
 use Rattle.versions.specs.History.{Judges}
 use Rattle.wire.specs.Entries.{history_text}
-use Rattle.script.proofs.KeptBack.{HoldsBack, holds_broken, stops_after}
-use Rattle.script.proofs.Sending.{sends_more}
+use Rattle.history_writer.proofs.KeptBack.{HoldsBack, holds_broken, stops_after}
+use Rattle.history_writer.proofs.Sending.{sends_more}
 use Rattle.script.proofs.Standing.{Stands}
 
 -- some turns were answered, and a front of their replies was handed on
-abbrev pub Stops : RehearsalState → List ℕ → PlayFault → OutputState → OutputState → Type 0
+abbrev pub Stops : RehearsalState → List ℕ → OutFault → OutputState → OutputState → Type 0
 Stops start script bad before after = (done left : List Turn) × (turns_of script ≡ done ++ left)
     × ((front more : List ℕ) × (now : RehearsalState) × AreAnswered start done (front ++ more) now × StopsAt bad before after front)
 
@@ -46,11 +47,11 @@ front_of_none base script = record {
 }
 
 -- a front of what a script is answered, where playing stopped
-abbrev pub StopsIn : List Statement → List ℕ → PlayFault → OutputState → OutputState → Type 0
+abbrev pub StopsIn : List Statement → List ℕ → OutFault → OutputState → OutputState → Type 0
 StopsIn base script bad before after = (front : List ℕ) × IsFront base script front × StopsAt bad before after front
 
 -- among the turns
-pub front_of_turns : (base : List Statement) (script : List ℕ) (bad : PlayFault) (before after : OutputState) → Stops (at_start base) script bad before after → StopsIn base script bad before after
+pub front_of_turns : (base : List Statement) (script : List ℕ) (bad : OutFault) (before after : OutputState) → Stops (at_start base) script bad before after → StopsIn base script bad before after
 front_of_turns base script bad before after (done, left, turns, (front, more, now, answered, stops)) = (
   front,
   record {
@@ -67,9 +68,13 @@ front_of_turns base script bad before after (done, left, turns, (front, more, no
 )
 
 module _ (base : List Statement) (script : List ℕ) (now : RehearsalState) (before mid after : OutputState) (sent kept : List ℕ) (answered : AreAnswered (at_start base) (turns_of script) (sent ++ kept) now)
-    (sends : Sends before mid sent) where
+    (sends : Sends before mid sent) (log : List Entry) (shown : log ≡ now.room.log) where
+  -- the replies and the history behind them
+  with_history : sent ++ (kept ++ history_text log) ≡ (sent ++ kept) ++ history_text now.room.log
+  with_history = sym (append_assoc sent kept (history_text log)) ∙ ap (λ (entries : List Entry). (sent ++ kept) ++ history_text entries) shown
+
   -- after the last turn
-  pub front_of_history : (bad : PlayFault) → (front more : List ℕ) × (front ++ more ≡ kept ++ history_text now.room.log) × StopsAt bad mid after front → StopsIn base script bad before after
+  pub front_of_history : (bad : OutFault) → (front more : List ℕ) × (front ++ more ≡ kept ++ history_text log) × StopsAt bad mid after front → StopsIn base script bad before after
   front_of_history bad (front, more, is, stops) = (
     sent ++ front,
     record {
@@ -80,24 +85,21 @@ module _ (base : List Statement) (script : List ℕ) (now : RehearsalState) (bef
       after = now;
       answered = answered;
       more = more;
-      within = inr (
-        refl,
-        append_assoc sent front more ∙ ap (λ (l : List ℕ). sent ++ l) is ∙ sym (append_assoc sent kept (history_text now.room.log)),
-      );
+      within = inr (refl, append_assoc sent front more ∙ ap (λ (l : List ℕ). sent ++ l) is ∙ with_history);
     },
     stops_after bad before mid after sent front sends stops,
   )
 
   -- all of it
-  pub played : IsLegal (Judges base) now.room.log → Sends mid after (kept ++ history_text now.room.log) → (text : List ℕ) × IsPlayed base script text × Sends before after text
+  pub played : IsLegal (Judges base) now.room.log → Sends mid after (kept ++ history_text log) → (text : List ℕ) × IsPlayed base script text × Sends before after text
   played legal last = (
-    sent ++ (kept ++ history_text now.room.log),
+    sent ++ (kept ++ history_text log),
     record {
       replies = sent ++ kept;
       after = now;
       answered = answered;
       legal = legal;
-      is_text = sym (append_assoc sent kept (history_text now.room.log));
+      is_text = with_history;
     },
-    sends_more before mid after sent (kept ++ history_text now.room.log) sends last,
+    sends_more before mid after sent (kept ++ history_text log) sends last,
   )

@@ -2,6 +2,5 @@ pub mod Answers
 pub mod Lines
 pub mod Played
 pub mod Rehearsal
-pub mod Sending
 pub mod Staging
 pub mod Turns

@@ -1,9 +1,7 @@
 -- What a script is answered over a base, of this project.
-use Rattle.std.specs.Prelude.{ℕ, ◌≡◌, ◌⊎◌, List, [], ◌++◌, Option}
-use Rattle.std.specs.List.{flat_map}
+use Rattle.std.specs.Prelude.{ℕ, ◌≡◌, ◌⊎◌, List, [], ◌++◌}
 use Rattle.cim_words.specs.declared.statement.Statement.{Statement}
 use Rattle.desk.specs.Legal.{IsLegal}
-use Rattle.grid_out.specs.Sink.{Hands}
 use Rattle.script.specs.Answers.{AreAnswered}
 use Rattle.script.specs.Rehearsal.{RehearsalState, at_start}
 use Rattle.script.specs.Turns.{Turn, turns_of}
@@ -28,7 +26,3 @@ pub record IsFront (base : List Statement) (script front : List ℕ) : Type 0 wh
   pub answered : AreAnswered (at_start base) done replies after
   pub more : List ℕ
   pub within : (front ++ more ≡ replies) ⊎ ((left ≡ []) × (front ++ more ≡ replies ++ history_text after.room.log))
-
--- the pieces in which a text was handed to the output make up the text
-abbrev pub HandsText : Option (List (List ℕ)) → Option (List (List ℕ)) → List ℕ → Type 0
-HandsText old new text = (pieces : List (List ℕ)) × (flat_map (λ piece. piece) pieces ≡ text) × Hands old new pieces

@@ -2,17 +2,14 @@
 #![tactic(auto)]
 
 mod answers;
-mod fault;
-mod history;
 mod laws;
 mod line;
 mod open_document;
-mod output;
 mod playing;
 mod rehearsal;
 mod turns;
 
 pub use cim_words::NoMemory;
-pub use fault::PlayFault;
+pub use history_writer::OutFault;
 pub use laws::scripts_have_one_answer;
 pub use playing::play;

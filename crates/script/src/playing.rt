@@ -2,16 +2,15 @@
 
 ghost use Rattle.std.specs.Prelude.{◌≡◌, ◌++◌, List, ℕ, IfErr, IfOk, OnOk};
 ghost use Rattle.cim_model.specs.Profile.{IsFaultless};
+ghost use Rattle.history_writer.specs.Sending.{Sends, StopsAt, output};
 ghost use Rattle.script.specs.Played.{IsFront, IsPlayed};
 ghost use Rattle.script.specs.Rehearsal.{at_start, RehearsalState};
 ghost use Rattle.script.specs.Answers.{AreAnswered};
-ghost use Rattle.script.specs.Sending.{Sends, StopsAt, output};
 ghost use Rattle.script.specs.Turns.{Turn, turns_of};
 
-use crate::fault::PlayFault;
-use crate::output::flush_full;
 use crate::rehearsal::Rehearsal;
 use grid_out::Sink;
+use history_writer::{OutFault, flush_full, write_history};
 use nt_text::Lines;
 use room_core::steps_keep_origins;
 use statement_set::StatementSet;
@@ -29,7 +28,7 @@ pub fn play<K: Sink>(
     base: StatementSet,
     script: &[u8],
     out: &mut K,
-) -> Result<(), PlayFault>
+) -> Result<(), OutFault>
     requires { IsFaultless base }
     // The output took all that the script is answered, without a fault.
     ensures ok { OnOk result ((text : List ℕ) × IsPlayed base script.now text
@@ -49,7 +48,7 @@ fn play_counted<L: Ledger, K: Sink>(
     script: &[u8],
     blank: Blank,
     out: &mut K,
-) -> Result<(), PlayFault>
+) -> Result<(), OutFault>
     requires faultless { IsFaultless base }
     requires name { blank.name ≡ L.name }
     requires parts { blank.parts ≡ L.parts }
@@ -63,12 +62,12 @@ fn play_counted<L: Ledger, K: Sink>(
     let mut rehearsal = Rehearsal::<L>::start(alloc, base, blank)?;
     let kept = rehearsal.answer_all(script, out)?;
     rehearsal.room.history();
-    rehearsal.tell_history(kept, out)
+    write_history(rehearsal.room.current(), kept, out)
 }
 
 impl<L: Ledger> Rehearsal<L> {
     /// Answers a whole script, and gives back the replies that were not handed on yet.
-    fn answer_all<K: Sink>(&mut self, script: &[u8], out: &mut K) -> Result<Vec<u8>, PlayFault>
+    fn answer_all<K: Sink>(&mut self, script: &[u8], out: &mut K) -> Result<Vec<u8>, OutFault>
         ensures ok { IfOk result (λ kept. (sent : List ℕ) × AreAnswered self.old (turns_of script.now) (sent ++ kept.items) self.new
             × Sends (output (K.written out.old) (K.faults out.old) (K.handed out.old)) (output (K.written out.new) (K.faults out.new) (K.handed out.new)) sent) }
         ensures fault { IfErr result (λ fault. (done left : List Turn) × (turns_of script.now ≡ done ++ left)

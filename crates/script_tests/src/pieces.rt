@@ -4,7 +4,7 @@ use crate::feeder::FEEDER;
 use crate::playing::{answers, statements, text_of};
 use crate::texts::lines;
 use grid_out::MemSink;
-use script::{PlayFault, play};
+use script::{OutFault, play};
 use std::alloc::Global;
 use std::test::Fail;
 
@@ -30,7 +30,7 @@ fn a_long_text_goes_in_pieces(rt: HostRuntime) -> Result<(), Fail> {
         script.as_bytes(),
         &mut out,
     );
-    assert!(rt; played == Err(PlayFault::WriteFault));
+    assert!(rt; played == Err(OutFault::WriteFault));
     let front = text_of(alloc, out.written())?;
     assert!(rt; 65_536 <= front.len() && front.len() < 66_000);
     assert!(rt; whole.starts_with(front.as_str()) && front.ends_with("e1 ABC\n"));
@@ -47,7 +47,7 @@ fn a_full_output_is_told(rt: HostRuntime) -> Result<(), Fail> {
         b"c1 look\nc1 look\n",
         &mut out,
     );
-    assert!(rt; played == Err(PlayFault::WriteFault));
+    assert!(rt; played == Err(OutFault::WriteFault));
     assert!(rt; out.written() == b"c1 seen 0".as_slice());
     Ok(())
 }

@@ -7,7 +7,7 @@ use crate::texts::base;
 use cim_profile::first_break;
 use grid_out::MemSink;
 use nt_text::read_document;
-use script::{PlayFault, play};
+use script::{OutFault, play};
 use statement_set::StatementSet;
 use std::alloc::Global;
 use std::test::Fail;
@@ -35,8 +35,8 @@ pub(crate) fn answers(alloc: Global, short: &str, script: &[u8]) -> Result<Strin
     let mut out = MemSink::new(alloc, ROOM, &[])?;
     match play(alloc, statements(alloc, short)?, script, &mut out) {
         Ok(()) => text_of(alloc, out.written()),
-        Err(PlayFault::WriteFault) => Err(Fail::new("a full output")),
-        Err(PlayFault::NoMemory) => Err(Fail::new("no memory")),
+        Err(OutFault::WriteFault) => Err(Fail::new("a full output")),
+        Err(OutFault::NoMemory) => Err(Fail::new("no memory")),
     }
 }
 

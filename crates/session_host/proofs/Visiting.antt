@@ -87,11 +87,13 @@ serving_begins start looks fresh = record {
     origin = refl;
     begins = take-length start.post.reader.seen;
     heard = λ base began history more. refl;
-    number = omega arith;
-    coming = gives_none start.door.coming;
-    back = takes_none start.door.back;
-    counts = fresh.counts;
-    cause = no_fault start.door.faults start.counted.failed fresh.failed;
+    gave = record {
+      number = omega arith;
+      coming = gives_none start.door.coming;
+      back = takes_none start.door.back;
+      counts = fresh.counts;
+      cause = no_fault start.door.faults start.counted.failed fresh.failed;
+    };
   };
   looks = looks;
   bounded = inl refl;
@@ -114,10 +116,10 @@ module _ (start now mid : AtDoor) (link : LinkShown) (serving : Serving start no
   visits = serving.served.visits
 
   start_bounded : start.door.number < 2 ^ 32
-  start_bounded = first_bounded (length visits) now.door.number start.door.number serving.served.number serving.bounded bounded
+  start_bounded = first_bounded (length visits) now.door.number start.door.number serving.served.gave.number serving.bounded bounded
 
   sessions_left : length visits + 1 < 2 ^ 32 + 1
-  sessions_left = let number = serving.served.number in let came = comes.number in let few = start_bounded in omega (arith, number, came, few)
+  sessions_left = let number = serving.served.gave.number in let came = comes.number in let few = start_bounded in omega (arith, number, came, few)
 
   -- so there are looks enough for one more session
   pub looks_left : length mid.post.reader.founds + most_input ≤ 2 ^ 63
@@ -159,19 +161,21 @@ module _ (start now mid : AtDoor) (link : LinkShown) (serving : Serving start no
       origin = serves.seat.origin ∙ (ap (λ (p : Post). p.reader.origin) posted ∙ serving.served.origin);
       begins = prefix_trans _ _ _ serving.served.begins (subst (λ (p : Post). IsPrefix p.reader.seen after.post.reader.seen) posted serves.seat.begins);
       heard = heard_on;
-      number = let was = serving.served.number in let came = comes.number in let kept = serves.number in omega (arith, was, came, kept, lengthened);
-      coming = subst (GivesFirstOnes start.door.coming after.door.coming) (sym (map-append (λ (v : Visit). v.came) visits (visit ∷ [])))
-          (gives_on start.door.coming now.door.coming after.door.coming (map (λ (v : Visit). v.came) visits) link serving.served.coming
-          (subst (λ (c : Option (List LinkShown)). GivesFirstOnes now.door.coming c (link ∷ [])) (sym serves.coming) comes.coming));
-      back = subst (TakesAllBack start.door.back after.door.back) (sym (map-append (λ (v : Visit). v.went) visits (visit ∷ [])))
-          (takes_on start.door.back now.door.back after.door.back (map (λ (v : Visit). v.went) visits) serves.went serving.served.back
-          (subst (λ (b : Option (List LinkShown)). TakesAllBack b after.door.back (serves.went ∷ [])) comes.back serves.back));
-      counts = subst (CountsEnds after.counted) (sym (map-append (λ (v : Visit). v.ended) visits (visit ∷ [])))
-          (serves.counts (map (λ (v : Visit). v.ended) visits) (subst (λ (d : DoorEnd). CountsEnds d (map (λ (v : Visit). v.ended) visits)) (sym counted) serving.served.counts)
-          (let few = sessions_left in let same : length (map (λ (v : Visit). v.ended) visits) ≡ length visits = length-map visits (λ (v : Visit). v.ended) in
-          let came = comes.number in let number = serving.served.number in let bound = start_bounded in omega (arith, same, came, number, bound)));
-      cause = no_fault_since start.door.faults now.door.faults after.door.faults now.counted.failed after.counted.failed serving.served.cause serving.failed
-          (serves.faults ∙ comes.faults) (serves.failed ∙ not_failed);
+      gave = record {
+        number = let was = serving.served.gave.number in let came = comes.number in let kept = serves.number in omega (arith, was, came, kept, lengthened);
+        coming = subst (GivesFirstOnes start.door.coming after.door.coming) (sym (map-append (λ (v : Visit). v.came) visits (visit ∷ [])))
+            (gives_on start.door.coming now.door.coming after.door.coming (map (λ (v : Visit). v.came) visits) link serving.served.gave.coming
+            (subst (λ (c : Option (List LinkShown)). GivesFirstOnes now.door.coming c (link ∷ [])) (sym serves.coming) comes.coming));
+        back = subst (TakesAllBack start.door.back after.door.back) (sym (map-append (λ (v : Visit). v.went) visits (visit ∷ [])))
+            (takes_on start.door.back now.door.back after.door.back (map (λ (v : Visit). v.went) visits) serves.went serving.served.gave.back
+            (subst (λ (b : Option (List LinkShown)). TakesAllBack b after.door.back (serves.went ∷ [])) comes.back serves.back));
+        counts = subst (CountsEnds after.counted) (sym (map-append (λ (v : Visit). v.ended) visits (visit ∷ [])))
+            (serves.counts (map (λ (v : Visit). v.ended) visits) (subst (λ (d : DoorEnd). CountsEnds d (map (λ (v : Visit). v.ended) visits)) (sym counted) serving.served.gave.counts)
+            (let few = sessions_left in let same : length (map (λ (v : Visit). v.ended) visits) ≡ length visits = length-map visits (λ (v : Visit). v.ended) in
+            let came = comes.number in let number = serving.served.gave.number in let bound = start_bounded in omega (arith, same, came, number, bound)));
+        cause = no_fault_since start.door.faults now.door.faults after.door.faults now.counted.failed after.counted.failed serving.served.gave.cause serving.failed
+            (serves.faults ∙ comes.faults) (serves.failed ∙ not_failed);
+      };
     }
 
     pub serving_on : Serving start after
@@ -195,12 +199,14 @@ served_to_the_end start now after serving ends posted = record {
     begins = subst (λ (p : Post). IsPrefix start.post.reader.seen p.reader.seen) (sym posted) serving.served.begins;
     heard = subst (λ (p : Post). (base : List Statement) → start.post.reader.origin ≡ Some base → (history : List Entry) → IsPrefix p.reader.seen history →
         AreVisits base history (number_of start.post) (view_of start.post) serving.served.visits (view_of p)) (sym posted) serving.served.heard;
-    number = let was = serving.served.number in let kept = ends.number in omega (arith, was, kept);
-    coming = subst (λ (c : Option (List LinkShown)). GivesFirstOnes start.door.coming c (map (λ (v : Visit). v.came) serving.served.visits)) (sym ends.coming) serving.served.coming;
-    back = subst (λ (b : Option (List LinkShown)). TakesAllBack start.door.back b (map (λ (v : Visit). v.went) serving.served.visits)) (sym ends.back) serving.served.back;
-    counts = counts_kept now.counted after.counted (map (λ (v : Visit). v.ended) serving.served.visits) ends.counted serving.served.counts;
-    cause = subst (λ (n : ℕ). CountsFaults n after.door.faults after.counted.failed)
-        (faults_kept start.door.faults now.door.faults now.counted.failed serving.served.cause serving.failed) ends.cause;
+    gave = record {
+      number = let was = serving.served.gave.number in let kept = ends.number in omega (arith, was, kept);
+      coming = subst (λ (c : Option (List LinkShown)). GivesFirstOnes start.door.coming c (map (λ (v : Visit). v.came) serving.served.visits)) (sym ends.coming) serving.served.gave.coming;
+      back = subst (λ (b : Option (List LinkShown)). TakesAllBack start.door.back b (map (λ (v : Visit). v.went) serving.served.visits)) (sym ends.back) serving.served.gave.back;
+      counts = counts_kept now.counted after.counted (map (λ (v : Visit). v.ended) serving.served.visits) ends.counted serving.served.gave.counts;
+      cause = subst (λ (n : ℕ). CountsFaults n after.door.faults after.counted.failed)
+          (faults_kept start.door.faults now.door.faults now.counted.failed serving.served.gave.cause serving.failed) ends.cause;
+    };
   };
   asked = ends.asked;
 }

@@ -123,6 +123,18 @@ pub record IsFresh (counted : DoorEnd) : Type 0 where
   pub counts : CountsEnds counted []
   pub failed : counted.failed ≡ false
 
+-- What a door gave and took back: a link for each visit. Its faults are counted, and whether it failed is noted.
+pub record Gave (before after : DoorShown) (counted : DoorEnd) (visits : List Visit) : Type 0 where
+  pub number : before.number ≡ length visits + after.number
+  pub coming : GivesFirstOnes before.coming after.coming (map (λ visit. visit.came) visits)
+  pub back : TakesAllBack before.back after.back (map (λ visit. visit.went) visits)
+  pub counts : CountsEnds counted (map (λ visit. visit.ended) visits)
+  pub cause : CountsFaults before.faults after.faults counted.failed
+
+-- a door that gives no more: its number is 0, or it failed
+abbrev pub GivesNoMore : DoorShown → DoorEnd → Type 0
+GivesNoMore door counted = (door.number ≡ 0) ⊎ (counted.failed ≡ true)
+
 -- A console has served sessions at its door, each over the next link that the door gave, which then went back. This holds in every history
 -- that goes on from what the console has seen at the end.
 pub record HasServed (before after : AtDoor) : Type 0 where
@@ -133,16 +145,12 @@ pub record HasServed (before after : AtDoor) : Type 0 where
   pub begins : IsPrefix before.post.reader.seen after.post.reader.seen
   pub heard : (base : List Statement) → before.post.reader.origin ≡ Some base → (history : List Entry) → IsPrefix after.post.reader.seen history
       → AreVisits base history (number_of before.post) (view_of before.post) visits (view_of after.post)
-  pub number : before.door.number ≡ length visits + after.door.number
-  pub coming : GivesFirstOnes before.door.coming after.door.coming (map (λ visit. visit.came) visits)
-  pub back : TakesAllBack before.door.back after.door.back (map (λ visit. visit.went) visits)
-  pub counts : CountsEnds after.counted (map (λ visit. visit.ended) visits)
-  pub cause : CountsFaults before.door.faults after.door.faults after.counted.failed
+  pub gave : Gave before.door after.door after.counted visits
 
--- The same until the door gave no more: its number is 0, or it failed.
+-- The same until the door gave no more.
 pub record ServedItsDoor (before after : AtDoor) : Type 0 where
   pub served : HasServed before after
-  pub asked : (after.door.number ≡ 0) ⊎ (after.counted.failed ≡ true)
+  pub asked : GivesNoMore after.door after.counted
 
 -- the next link of a door came
 pub record ComesNext (before after : DoorShown) (link : LinkShown) : Type 0 where
@@ -154,7 +162,7 @@ pub record ComesNext (before after : DoorShown) (link : LinkShown) : Type 0 wher
 
 -- a door gave no more: its number is 0, or it failed, which is noted
 pub record ComesNoMore (before after : AtDoor) : Type 0 where
-  pub asked : (after.door.number ≡ 0) ⊎ (after.counted.failed ≡ true)
+  pub asked : GivesNoMore after.door after.counted
   pub number : after.door.number ≡ before.door.number
   pub coming : after.door.coming ≡ before.door.coming
   pub back : after.door.back ≡ before.door.back

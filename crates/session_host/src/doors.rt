@@ -2,7 +2,7 @@
 
 ghost use Rattle.std.specs.Prelude.{ℕ, ◌≡◌, ◌+◌, ◌<◌, ◌≤◌, ◌^◌, length, false, slice_index_or, IfSome, IfNone, IsTrue};
 ghost use Rattle.line_serve.specs.AnsweredLines.{most_input};
-ghost use Rattle.session_host.specs.Doors.{AtDoor, ComesNext, ComesNoMore, IsFresh, ServedItsDoor, Serves, link_shown};
+ghost use Rattle.session_host.specs.Doors.{AtDoor, ComesNext, ComesNoMore, IsFresh, ServedItsDoor, Serves, door_shown, link_shown};
 
 use crate::door_end::DoorEnd;
 use crate::session::serve_session;
@@ -72,6 +72,35 @@ where
 }
 
 impl<D: Door, N: RoomName> Stand<D, N> {
+    /// A console at its door, before the first session.
+    pub fn new(console: Console<Version, N>, door: D, lines: LineRoom) -> Stand<D, N>
+        ensures post { result.post ≡ console }
+        ensures door { result.door ≡ door_shown (record { number = D.number; faults = D.faults; coming = D.coming; back = D.back; lent = D.lent; left = D.L.left; written = D.L.written; read_faults = D.L.read_faults; write_faults = D.L.write_faults }) door }
+        ensures fresh { IsFresh result.counted }
+    {
+        Stand {
+            console,
+            door,
+            lines,
+            end: DoorEnd::new(),
+        }
+    }
+
+    /// The console, the door and how its sessions ended.
+    pub fn into_parts(self) -> (Console<Version, N>, D, DoorEnd)
+        ensures post { result.0 ≡ self.post }
+        ensures door { door_shown (record { number = D.number; faults = D.faults; coming = D.coming; back = D.back; lent = D.lent; left = D.L.left; written = D.L.written; read_faults = D.L.read_faults; write_faults = D.L.write_faults }) result.1 ≡ self.door }
+        ensures counted { result.2 ≡ self.counted }
+    {
+        let Stand {
+            console,
+            door,
+            lines: _,
+            end,
+        } = self;
+        (console, door, end)
+    }
+
     /// Serves this door until it gives no more or fails.
     fn serve<R: Wait, G: Gate>(&mut self, rt: &R, alloc: Global, room: &Room<Version, N>, gate: &G)
         requires looks { length self.old.post.reader.founds ≤ 2 ^ 62 }

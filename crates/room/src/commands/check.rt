@@ -1,9 +1,9 @@
 //! The command `check BASE`.
 
 ghost use Rattle.std.specs.Prelude.{◌≡◌, ℕ, List, IfOk, OnErr};
+ghost use Rattle.history_writer.specs.Sending.{output};
 ghost use Rattle.room.specs.Ending.{IsDone};
 ghost use Rattle.room.specs.declared.task.Task.TheVariants.{Check};
-ghost use Rattle.script.specs.Sending.{output};
 
 use crate::check_text::write_check;
 use crate::status::Status;

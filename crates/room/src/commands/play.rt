@@ -2,13 +2,13 @@
 
 ghost use Rattle.std.specs.Prelude.{[], ◌∷◌};
 ghost use Rattle.cim_model.specs.Profile.{IsFaultless};
+ghost use Rattle.history_writer.specs.Sending.{output};
 ghost use Rattle.room.specs.Ending.{IsDone};
 ghost use Rattle.room.specs.declared.task.Task.TheVariants.{Play};
-ghost use Rattle.script.specs.Sending.{output};
 
 use crate::status::Status;
 use grid_out::Sink;
-use script::{PlayFault, play};
+use script::{OutFault, play};
 use statement_set::StatementSet;
 use std::alloc::Global;
 
@@ -25,7 +25,7 @@ pub(crate) fn play_script<K: Sink>(
 {
     match play(alloc, set, script, out) {
         Ok(()) => Status::Ok,
-        Err(PlayFault::WriteFault) => Status::WriteFault,
-        Err(PlayFault::NoMemory) => Status::NoMemory,
+        Err(OutFault::WriteFault) => Status::WriteFault,
+        Err(OutFault::NoMemory) => Status::NoMemory,
     }
 }

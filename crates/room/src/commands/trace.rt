@@ -2,11 +2,11 @@
 
 ghost use Rattle.std.specs.Prelude.{◌≡◌, ℕ, List, IfOk, IfErr, OnErr};
 ghost use Rattle.cim_model.specs.Profile.{IsFaultless};
+ghost use Rattle.history_writer.specs.Sending.{output};
 ghost use Rattle.room.specs.Ending.{IsDone};
 ghost use Rattle.room.specs.Refusal.{IfRefusal};
 ghost use Rattle.room.specs.Run.{RefusesTrace};
 ghost use Rattle.room.specs.declared.task.Task.TheVariants.{Trace};
-ghost use Rattle.script.specs.Sending.{output};
 
 use crate::refusal::{Failure, TaskRefusal};
 use crate::status::Status;

@@ -1,5 +1,5 @@
 use Rattle.std.proofs.Common.{◌≡◌, ◌∷◌, inr, inl, refl, sym, subst, map, string_bytes, Result, Err, IfErr}
-use Rattle.script.specs.Sending.{output}
+use Rattle.history_writer.specs.Sending.{output}
 use Rattle.room.specs.Command.{further_names}
 use Rattle.room.specs.Ending.{ending}
 use Rattle.room.specs.Files.{further_contents}

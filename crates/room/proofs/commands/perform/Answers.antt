@@ -1,4 +1,4 @@
-use Rattle.script.specs.Sending.{output}
+use Rattle.history_writer.specs.Sending.{output}
 use Rattle.room.specs.Files.{further_contents}
 use Rattle.room.specs.declared.task.Task.TheVariants as task
 use Rattle.room.proofs.AnswerLemmas.{over_base}

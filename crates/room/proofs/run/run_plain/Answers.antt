@@ -1,5 +1,5 @@
 use Rattle.std.proofs.Common.{map, string_bytes}
-use Rattle.script.specs.Sending.{output}
+use Rattle.history_writer.specs.Sending.{output}
 use Rattle.room.proofs.AnswerLemmas.{names_told, said_from, said_nothing, said_refusal}
 use Rattle.room.proofs.run.run_plain.Goals as goal
 

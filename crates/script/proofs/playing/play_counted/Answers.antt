@@ -1,16 +1,16 @@
-use Rattle.std.proofs.Common.{◌≡◌, ◌++◌, [], List, subst}
+use Rattle.std.proofs.Common.{◌≡◌, ◌++◌, [], List, subst, ap, ◌∙◌}
 use Rattle.std.proofs.lemmas.Result.{IfErr-weaker, on_ok_weaker}
 use Rattle.cim_words.specs.declared.statement.Statement.{Statement}
 use Rattle.desk.specs.Legal.{IsLegal}
+use Rattle.history_writer.specs.Sending.{OutputState, output}
+use Rattle.history_writer.specs.declared.fault.OutFault.TheVariants as fault
 use Rattle.script.specs.Answers.{AreAnswered}
 use Rattle.script.specs.Rehearsal.{RehearsalState, at_start}
-use Rattle.script.specs.Sending.{OutputState, output}
 use Rattle.script.specs.Turns.{turns_of}
-use Rattle.script.specs.declared.fault.PlayFault.TheVariants as fault
 use Rattle.versions.specs.History.{Judges}
-use Rattle.script.proofs.KeptBack.{stopped}
+use Rattle.history_writer.proofs.KeptBack.{stopped}
+use Rattle.history_writer.proofs.Sending.{sends_none}
 use Rattle.script.proofs.Origins.{turns_keep}
-use Rattle.script.proofs.Sending.{sends_none}
 use Rattle.script.proofs.Stopping.{Stops, front_of_history, front_of_none, front_of_turns, played}
 use Rattle.script.proofs.playing.play_counted.Goals as goal
 
@@ -40,7 +40,8 @@ returns-clause-ok g c =
     let turns = turns_of c.args.script.now in
     let answered = subst (λ (start : RehearsalState). AreAnswered start turns text now) c.in_ok-rehearsal.ensures told.1 in
     let legal = legal_from base _ now c.rehearsal.view_is (turns_keep c.steps_keep_origins.ensures turns (at_start base) now text answered) c.history.ensures.legal in
-    on_ok_weaker c.tell_history.result (λ sends. played base c.args.script.now now _ _ _ told.0 c.in_ok-kept.kept.items answered told.2 legal sends) c.tell_history.ensures.ok
+    let shown : c.current.result.now.log ≡ now.room.log = c.current.ensures.log ∙ ap (λ (r : RehearsalState). r.room.log) c.rehearsal.view_is in
+    on_ok_weaker c.write_history.result (λ sends. played base c.args.script.now now _ _ _ told.0 c.in_ok-kept.kept.items answered told.2 _ shown legal sends) c.write_history.ensures.ok
 
 pub returns-clause-fault : goal.returns-clause-fault
 returns-clause-fault g c =
@@ -48,4 +49,5 @@ returns-clause-fault g c =
     let now = c.answer_all.new.self in
     let told = c.in_ok-kept.ensures.ok in
     let answered = subst (λ (start : RehearsalState). AreAnswered start (turns_of c.args.script.now) (told.0 ++ c.in_ok-kept.kept.items) now) c.in_ok-rehearsal.ensures told.1 in
-    IfErr-weaker c.tell_history.result _ _ (λ bad stops. front_of_history base c.args.script.now now _ _ _ told.0 c.in_ok-kept.kept.items answered told.2 bad stops) c.tell_history.ensures.fault
+    let shown : c.current.result.now.log ≡ now.room.log = c.current.ensures.log ∙ ap (λ (r : RehearsalState). r.room.log) c.rehearsal.view_is in
+    IfErr-weaker c.write_history.result _ _ (λ bad stops. front_of_history base c.args.script.now now _ _ _ told.0 c.in_ok-kept.kept.items answered told.2 _ shown bad stops) c.write_history.ensures.fault

@@ -1,10 +1,10 @@
 use Rattle.std.proofs.Common.{◌≡◌, ◌++◌, [], ℕ, List, None, true, refl, sym, subst, ◌∙◌}
+use Rattle.history_writer.specs.declared.fault.OutFault.TheVariants as fault
 use Rattle.nt_text.specs.Document.{lines_of}
 use Rattle.script.specs.Answers.{AreAnswered}
 use Rattle.script.specs.Rehearsal.{RehearsalState}
 use Rattle.script.specs.Turns.{turns_of}
-use Rattle.script.specs.declared.fault.PlayFault.TheVariants as fault
-use Rattle.script.proofs.KeptBack.{holds_all, holds_less, holds_more, stopped}
+use Rattle.history_writer.proofs.KeptBack.{holds_all, holds_less, holds_more, stopped}
 use Rattle.script.proofs.Standing.{Stands, stands_end, stands_first, stands_on}
 use Rattle.script.proofs.Stopping.{stops_for_memory, stops_for_output}
 use Rattle.script.proofs.rehearsal.Rehearsal.answer_all.Goals as goal

@@ -1,7 +1,7 @@
 use Rattle.std.proofs.Common.{ℕ, List}
+use Rattle.history_writer.specs.Sending.{output}
 use Rattle.nt_text.specs.Document.{lines_of}
-use Rattle.script.specs.Sending.{output}
-use Rattle.script.proofs.KeptBack.{HoldsBack}
+use Rattle.history_writer.proofs.KeptBack.{HoldsBack}
 use Rattle.script.proofs.Standing.{Stands}
 use Rattle.script.proofs.rehearsal.Rehearsal.answer_all.Given as goal
 

@@ -1,5 +1,5 @@
 -- A history, entry by entry.
-use Rattle.std.proofs.Common.{◌≡◌, ℕ, ◌+◌, ◌<◌, ◌≤◌, List, [], ◌∷◌, ◌++◌, length, take, get_or, codes, suc, zero, refl, sym, ap, subst, ◌∙◌, append_assoc, append-nil, arith}
+use Rattle.std.proofs.Common.{◌≡◌, ℕ, ◌+◌, ◌<◌, ◌≤◌, List, [], ◌∷◌, ◌++◌, length, take, get_or, codes, suc, zero, refl, sym, ap, ◌∙◌, append_assoc, append-nil, arith}
 use Rattle.std.proofs.lemmas.List.{length-take-le, take_all, take_more}
 use Rattle.std.specs.Fmt.{decimal}
 use Rattle.cim_words.specs.Written.{line_feed}
@@ -29,9 +29,9 @@ entries_next n (first ∷ log) entry =
     ap (λ (l : List ℕ). entry_text n first ++ l) (entries_next (n + 1) log entry ∙ ap (λ (m : ℕ). entries_text (n + 1) log ++ entry_text m entry) number)
     ∙ sym (append_assoc (entry_text n first) (entries_text (n + 1) log) (entry_text (length (first ∷ log) + n) entry))
 
-told_next : (kept : List ℕ) (log : List Entry) (count : ℕ) (entry : Entry) → count < length log → entry ≡ get_or log count entry
+pub told_step : (kept : List ℕ) (log : List Entry) (count : ℕ) (entry : Entry) → count < length log → entry ≡ get_or log count entry
     → told_of kept log (count + 1) ≡ told_of kept log count ++ entry_text (count + 1) entry
-told_next kept log count entry within is =
+told_step kept log count entry within is =
     let one : take (count + 1) log ≡ take count log ++ entry ∷ [] = take_more log count entry within ∙ ap (λ (e : Entry). take count log ++ e ∷ []) (sym is) in
     let number : length (take count log) + 1 ≡ count + 1 = ap (λ (m : ℕ). m + 1) (length-take-le count log (omega (arith, within))) in
     let next : entries_text 1 (take (count + 1) log) ≡ entries_text 1 (take count log) ++ entry_text (count + 1) entry =
@@ -39,11 +39,6 @@ told_next kept log count entry within is =
     ap (λ (l : List ℕ). kept ++ (head_text log ++ l)) next
     ∙ ap (λ (l : List ℕ). kept ++ l) (sym (append_assoc (head_text log) (entries_text 1 (take count log)) (entry_text (count + 1) entry)))
     ∙ sym (append_assoc kept (head_text log ++ entries_text 1 (take count log)) (entry_text (count + 1) entry))
-
-pub told_step : (kept : List ℕ) (log shown : List Entry) (count : ℕ) (entry : Entry) → shown ≡ log → count < length shown → entry ≡ get_or shown count entry
-    → told_of kept log (count + 1) ≡ told_of kept log count ++ entry_text (count + 1) entry
-told_step kept log shown count entry same within is =
-    told_next kept log count entry (subst (λ (l : List Entry). count < length l) same within) (subst (λ (l : List Entry). entry ≡ get_or l count entry) same is)
 
 -- the head of a history before the rest of it
 head_first : (log : List Entry) (rest : List ℕ) → head_text log ++ rest ≡ codes "history " ++ decimal (length log) ++ line_feed ∷ rest

@@ -1,10 +1,10 @@
 -- A text that is told in pieces: what was sent, and what is kept back of it.
 use Rattle.std.proofs.Common.{◌≡◌, ℕ, List, [], ◌++◌, Result, Ok, Err, IfErr, sym, ap, subst, ◌∙◌, append_assoc}
 use Rattle.std.specs.Result.{IsErrAnd}
-use Rattle.script.specs.Sending.{Breaks, OutputState, Sends, StopsAt}
-use Rattle.script.specs.declared.fault.PlayFault.{PlayFault}
-use Rattle.script.specs.declared.fault.PlayFault.TheVariants as fault
-use Rattle.script.proofs.Sending.{breaks_after, sends_more, sends_none}
+use Rattle.history_writer.specs.Sending.{Breaks, OutputState, Sends, StopsAt}
+use Rattle.history_writer.specs.declared.fault.OutFault.{OutFault}
+use Rattle.history_writer.specs.declared.fault.OutFault.TheVariants as fault
+use Rattle.history_writer.proofs.Sending.{breaks_after, sends_more, sends_none}
 
 -- what was sent and what is held back make up the text
 abbrev pub HoldsBack : OutputState → OutputState → List ℕ → List ℕ → Type 0
@@ -14,7 +14,7 @@ pub holds_all : (before : OutputState) (text held : List ℕ) → held ≡ text 
 holds_all before text held all = ([], all, sends_none before)
 
 -- a fault after a text that was sent is one after the whole
-pub stops_after : (bad : PlayFault) (before mid after : OutputState) (a b : List ℕ) → Sends before mid a → StopsAt bad mid after b → StopsAt bad before after (a ++ b)
+pub stops_after : (bad : OutFault) (before mid after : OutputState) (a b : List ℕ) → Sends before mid a → StopsAt bad mid after b → StopsAt bad before after (a ++ b)
 stops_after fault.WriteFault before mid after a b first next = breaks_after before mid after a b first next
 stops_after fault.NoMemory before mid after a b first next = sends_more before mid after a b first next
 
@@ -41,6 +41,6 @@ module _ {before now : OutputState} {text held : List ℕ} (holds : HoldsBack be
   holds_front whole (more, is) = (holds.0, held ++ more, sym (append_assoc holds.0 held more) ∙ ap (λ (l : List ℕ). l ++ more) holds.1 ∙ is, holds.2)
 
 -- a fault that is handed on, with what holds where it comes
-pub stopped : {A : Type 0} (P : PlayFault → Type 0) (r : Result A PlayFault) (kind : PlayFault) → IsErrAnd r (λ bad. bad ≡ kind) → P kind → IfErr r P
+pub stopped : {A : Type 0} (P : OutFault → Type 0) (r : Result A OutFault) (kind : OutFault) → IsErrAnd r (λ bad. bad ≡ kind) → P kind → IfErr r P
 stopped P (Ok x) kind is p = absurd is
 stopped P (Err bad) kind is p = subst P (sym is) p

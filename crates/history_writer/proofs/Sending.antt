@@ -5,8 +5,7 @@ use Rattle.std.proofs.Math.Seq.{take-append-add}
 use Rattle.grid_out.specs.Faults.{Rose}
 use Rattle.grid_out.specs.Notes.{Grows}
 use Rattle.grid_out.specs.Sink.{Gains, GainsPrefix, Hands}
-use Rattle.script.specs.Played.{HandsText}
-use Rattle.script.specs.Sending.{Breaks, OutputState, Sends}
+use Rattle.history_writer.specs.Sending.{Breaks, HandsText, OutputState, Sends}
 
 gains_none : (old : Option (List ℕ)) → Gains old old []
 gains_none None = tt

@@ -1,0 +1,3 @@
+mod Histories
+pub mod KeptBack
+pub mod Sending
