@@ -1,12 +1,12 @@
 use Rattle.std.proofs.Common.{◌≡◌, ◌≤◌, ◌+◌, ◌++◌, length, map, vec_capacity}
 use Rattle.room_run.specs.Standing.{AllFresh, doors_of, posts_of}
-use Rattle.session_host.specs.Doors.{door_shown}
+use Rattle.session_host.specs.Doors.{DoorWords, door_shown}
 use Rattle.room_run.proofs.standing.Places.fill.Given as goal
 
 -- the consoles that stand at their doors, and those that are left
-abbrev pub invariant-loop-doors : goal.invariant-loop-doors
-invariant-loop-doors g l =
-    let words = record {
+abbrev pub invariant-loop-consoles : goal.invariant-loop-consoles
+invariant-loop-consoles g l =
+    let words : DoorWords g.row.D.Denot g.row.D-L.Denot = record {
         number = g.D.Door.number;
         faults = g.D.Door.faults;
         coming = g.D.Door.coming;
@@ -27,5 +27,5 @@ invariant-loop-doors g l =
     × (length l.fn.doors.items ≤ vec_capacity l.consoles)
     × (length l.fn.doors.items ≤ vec_capacity l.doors)
 
-abbrev pub decreases-loop-doors : goal.decreases-loop-doors
-decreases-loop-doors g l = length l.doors.items
+abbrev pub decreases-loop-consoles : goal.decreases-loop-consoles
+decreases-loop-consoles g l = length l.doors.items

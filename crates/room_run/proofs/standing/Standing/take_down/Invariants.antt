@@ -1,12 +1,12 @@
 use Rattle.std.proofs.Common.{◌≡◌, ◌≤◌, ◌+◌, ◌++◌, length, map, vec_capacity}
 use Rattle.room_run.specs.Standing.{counts_of, doors_of, posts_of}
-use Rattle.session_host.specs.Doors.{door_shown}
+use Rattle.session_host.specs.Doors.{DoorWords, door_shown}
 use Rattle.room_run.proofs.standing.Standing.take_down.Given as goal
 
 -- what left its door, and what still stands there
 abbrev pub invariant-loop-stands : goal.invariant-loop-stands
 invariant-loop-stands g l =
-    let words = record {
+    let words : DoorWords g.row.D.Denot g.row.D-L.Denot = record {
         number = g.D.Door.number;
         faults = g.D.Door.faults;
         coming = g.D.Door.coming;
