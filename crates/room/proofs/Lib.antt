@@ -1,9 +1,2 @@
-pub mod AnswerLemmas
 pub mod ArgLemmas
-pub mod FileLemmas
-pub mod LawsBelow
-pub mod OneAnswer
-pub mod OneBase
-pub mod OneCommand
 pub mod StreamLemmas
-pub mod TraceLemmas

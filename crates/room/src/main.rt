@@ -1,24 +1,9 @@
 //! Traces which equipment of a distribution network is reachable per phase from a source, and plays scripts of switching over it.
 #![tactic(auto)]
 
-mod answer;
-mod base;
-mod check_text;
-mod command;
-mod commands;
 mod file_shelf;
-mod files;
-mod laws;
 mod out_sink;
 mod process;
-mod refusal;
-mod refusal_line;
-mod run;
-mod status;
-mod task;
-mod telling;
-mod trace_text;
-mod tracing;
 
 use file_shelf::FileShelf;
 use out_sink::OutSink;

@@ -4,14 +4,13 @@ ghost use Rattle.std.specs.Prelude.{◌≡◌, ◌⊎◌, ℕ, List, [], map, dr
 ghost use Rattle.std.specs.Vec.Iter.{into_iter_items};
 ghost use Rattle.grid_out.specs.Faults.{CountsFaults};
 ghost use Rattle.grid_out.specs.Shelf.{AsksFor};
-ghost use Rattle.room.specs.declared.status.Status.{Status};
-ghost use Rattle.room.specs.Run.{Answers, AreNames, IsHanded, Writes, is_read_fault};
-ghost use Rattle.room.specs.Status.{status_code};
+ghost use Rattle.room_base.specs.declared.status.Status.{Status};
+ghost use Rattle.room_base.specs.Status.{status_code};
+ghost use Rattle.room_plain.specs.Run.{Answers, AreNames, IsHanded, Writes, is_read_fault};
 
-use crate::run::run_plain;
-use crate::status::Status;
 use cim_words::NoMemory;
 use grid_out::{Shelf, Sink};
+use room_plain::{Status, run_plain};
 use std::alloc::Global;
 use std::env::Args;
 use std::io;

@@ -3,7 +3,7 @@ use Rattle.std.specs.Vec.Iter.{into_iter_items}
 use Rattle.grid_out.proofs.FaultLaws.{counts_none}
 use Rattle.grid_out.proofs.NoteLaws.{grows_nothing}
 use Rattle.grid_out.proofs.SinkLaws.{gains_nothing}
-use Rattle.room.specs.declared.status.Status.TheVariants as status
+use Rattle.room_base.specs.declared.status.Status.TheVariants as status
 use Rattle.room.proofs.ArgLemmas.{as_words, some_words}
 use Rattle.room.proofs.process.run_code.Goals as goal
 

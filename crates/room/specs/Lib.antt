@@ -1,9 +1,0 @@
-pub mod Base
-pub mod CheckText
-pub mod Command
-pub mod Ending
-pub mod Files
-pub mod Refusal
-pub mod RefusalLine
-pub mod Run
-pub mod Status

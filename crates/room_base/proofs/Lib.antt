@@ -1,0 +1,3 @@
+pub mod FileLemmas
+mod LawsBelow
+mod OneBase

@@ -1,0 +1,5 @@
+pub mod Base
+pub mod Files
+pub mod Refusal
+pub mod RefusalLine
+pub mod Status
