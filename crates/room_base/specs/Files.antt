@@ -1,5 +1,5 @@
 -- What the shelf tells of the files that words name, of this project. None may be longer than a base.
-use Rattle.std.specs.Prelude.{ℕ, ◌≡◌, ◌≤◌, ◌<◌, ◌⊎◌, List, [], ◌∷◌, length, Option, Some, IfSome}
+use Rattle.std.specs.Prelude.{ℕ, ◌≡◌, ◌≢◌, ◌≤◌, ◌<◌, ◌⊎◌, List, [], ◌∷◌, length, Option, Some, IfSome}
 use Rattle.room_base.specs.Base.{base_limit}
 use Rattle.room_base.specs.declared.refusal.BaseRefusal.TheVariants as base
 use Rattle.room_base.specs.declared.refusal.Refusal.{Refusal}
@@ -32,3 +32,8 @@ abbrev pub RefusesFiles : (List ℕ → Option (List ℕ)) → List (List ℕ) �
 RefusesFiles told names refusal.ReadFault = Unit {0}
 RefusesFiles told names (refusal.Base base.Limit) = OneIsLong told names
 RefusesFiles told names why = ⊥
+
+-- a file is named by a word that is not empty and does not begin with `-`
+abbrev pub IsFileName : List ℕ → Type 0
+IsFileName [] = ⊥
+IsFileName (first ∷ _) = first ≢ 0x2D

@@ -1,10 +1,10 @@
 //! A file of a shelf, as it is read.
 
-ghost use Rattle.std.specs.Prelude.{◌≡◌, ◌≤◌, ℕ, List, [], ◌∷◌, length, IfOk, IfErr, IfSome};
+ghost use Rattle.std.specs.Prelude.{◌≡◌, ◌≤◌, ◌↔◌, ℕ, List, [], ◌∷◌, length, IfOk, IfErr, IfSome, IsTrue};
 ghost use Rattle.grid_out.specs.Faults.{CountsFaults};
 ghost use Rattle.grid_out.specs.Shelf.{AsksFor};
 ghost use Rattle.room_base.specs.Base.{base_limit};
-ghost use Rattle.room_base.specs.Files.{RefusesFiles};
+ghost use Rattle.room_base.specs.Files.{IsFileName, RefusesFiles};
 ghost use Rattle.room_base.specs.Refusal.{IfRefusal, is_failed_read};
 
 use crate::refusal::{Failure, Refusal};
@@ -32,5 +32,15 @@ pub fn read_file<F: Shelf>(
     match shelf.read_whole(name, BASE_LIMIT, &mut bytes) {
         Ok(()) => Ok(bytes),
         Err(fault) => Err(Failure::from(fault)),
+    }
+}
+
+/// Whether a word of the command line names a file: it is not empty and does not begin with `-`.
+pub fn is_file_name(word: &str) -> bool
+    ensures { IsTrue result ↔ IsFileName word.now }
+{
+    match word.as_bytes() {
+        [] => false,
+        [first, ..] => *first != b'-',
     }
 }

@@ -6,11 +6,13 @@ mod files;
 mod laws;
 mod refusal;
 mod refusal_lines;
+mod refusing;
 mod status;
 
 pub use base::read_base;
-pub use files::read_file;
+pub use files::{is_file_name, read_file};
 pub use laws::bases_have_one_reading;
 pub use refusal::{BaseRefusal, Failure, Refusal, TaskRefusal};
+pub use refusing::refuse;
 pub use refusal_lines::{RefusalLine, refusal_line};
 pub use status::Status;

@@ -20,7 +20,8 @@ use Rattle.room_base.specs.declared.status.Status.{Status}
 use Rattle.room_base.specs.declared.status.Status.TheVariants as status
 use Rattle.room_base.proofs.FileLemmas.{read_short}
 use Rattle.room_plain.specs.Ending.{IsSaid, IsDone, IsTold, IsUntold, ending}
-use Rattle.room_plain.specs.Run.{AreNames, Asks, Explains, GainsAtMost, HandsTask, Reads, ends_early, pieces_of}
+use Rattle.room_base.specs.Refusing.{GainsAtMost, pieces_of}
+use Rattle.room_plain.specs.Run.{AreNames, Asks, Explains, HandsTask, Reads, ends_early}
 use Rattle.room_plain.specs.declared.task.Task.{Task}
 
 -- a task over a set of a base is a task over its bytes

@@ -3,14 +3,10 @@ use Rattle.std.specs.Prelude.{ℕ, ◌≡◌, ◌≢◌, List, [], ◌∷◌, So
 use Rattle.cim_words.specs.IdText.{plain_number}
 use Rattle.cim_words.specs.Phases.{phase_text, has_no_phase}
 use Rattle.cim_words.specs.declared.phases.PhaseSet.{PhaseSet}
+use Rattle.room_base.specs.Files.{IsFileName}
 use Rattle.room_plain.specs.declared.command.Asked.{Asked}
 use Rattle.room_plain.specs.declared.task.Task.{Task}
 use Rattle.room_plain.specs.declared.task.Task.TheVariants as task
-
--- a file is named by a word that is not empty and does not begin with `-`
-abbrev pub IsFileName : List ℕ → Type 0
-IsFileName [] = ⊥
-IsFileName (first ∷ _) = first ≢ 0x2D
 
 -- the words are `trace BASE SOURCE PHASES`: a file name, a plain identifier and the text of phases, of which there is one
 pub record IsTraceCommand (words : List (List ℕ)) (name : List ℕ) (source : ℕ) (phases : PhaseSet) : Type 0 where

@@ -20,6 +20,7 @@ use Rattle.room_base.specs.declared.refusal.TaskRefusal.{TaskRefusal}
 use Rattle.room_base.specs.declared.refusal.TaskRefusal.TheVariants as of_task
 use Rattle.room_base.specs.declared.status.Status.{Status}
 use Rattle.room_base.specs.declared.status.Status.TheVariants as status
+use Rattle.room_base.specs.Refusing.{GainsAtMost, GainsFront}
 use Rattle.room_base.specs.Base.{IsBase, RefusesBase}
 use Rattle.room_base.specs.Files.{AreContents, NoneIsLong, OneIsLong, TellsAll}
 use Rattle.room_base.specs.Status.{line_of, status_of}
@@ -123,25 +124,12 @@ Answers told words status.WriteFault text = HasFront told words text
 Answers told words status.NoMemory text = (text ≡ []) ⊎ HasPlayed told words text
 Answers told words ends text = IsRefused told words ends text
 
--- What the output gained: the text; after a fault of the output a front of it. A refusal's line that the output does not take
--- leaves the status as it is.
-pub record GainsFront (old new : Option (List ℕ)) (before now : ℕ) (text : List ℕ) : Type 0 where
-  pub front : GainsPrefix old new text
-  pub fault : Rose before now
-
-abbrev pub GainsAtMost : Option (List ℕ) → Option (List ℕ) → ℕ → ℕ → List ℕ → Type 0
-GainsAtMost old new before now text = (Gains old new text × (now ≡ before)) ⊎ GainsFront old new before now text
-
+-- What the output gained of a text, by the status.
 abbrev pub Writes : Status → Option (List ℕ) → Option (List ℕ) → ℕ → ℕ → List ℕ → Type 0
 Writes status.Ok old new before now text = Gains old new text × (now ≡ before)
 Writes status.WriteFault old new before now text = GainsFront old new before now text
 Writes status.NoMemory old new before now text = Gains old new text × (now ≡ before)
 Writes _ old new before now text = GainsAtMost old new before now text
-
--- the pieces in which a text is handed to the output: all of it at once, and nothing where no text is written
-abbrev pub pieces_of : Status → List ℕ → List (List ℕ)
-pieces_of status.NoMemory text = []
-pieces_of _ text = text ∷ []
 
 -- How a task's text is handed over: as a script is played, in pieces that make it up, and else all at once.
 abbrev pub HandsTask : Task → Option (List (List ℕ)) → Option (List (List ℕ)) → List ℕ → Type 0

@@ -1,12 +1,13 @@
 //! The words of the command line.
 
-ghost use Rattle.std.specs.Prelude.{◌≡◌, ◌↔◌, ℕ, List, [], ◌∷◌, map, string_bytes, IsTrue, IfSome, IsSomeAnd};
+ghost use Rattle.std.specs.Prelude.{◌≡◌, ℕ, List, [], ◌∷◌, map, string_bytes, IfSome, IsSomeAnd};
 ghost use Rattle.cim_words.specs.declared.phases.PhaseSet.{PhaseSet};
 ghost use Rattle.room_plain.specs.declared.task.Task.{Task};
-ghost use Rattle.room_plain.specs.Command.{IsFileName, IsCommand, further_names};
+ghost use Rattle.room_plain.specs.Command.{IsCommand, further_names};
 
 use crate::task::Task;
 use cim_words::{Id, PhaseSet};
+use room_base::is_file_name;
 
 /// What the words ask for.
 #[derive(Clone, Copy)]
@@ -88,14 +89,4 @@ fn trace_words<'a>(command: &str, base: &'a str, source: &str, phases: &str) -> 
         script: None,
         task: Task::Trace { source, phases },
     })
-}
-
-/// Whether a word names a file.
-fn is_file_name(word: &str) -> bool
-    ensures { IsTrue result ↔ IsFileName word.now }
-{
-    match word.as_bytes() {
-        [] => false,
-        [first, ..] => *first != b'-',
-    }
 }

@@ -1,15 +1,13 @@
 //! A run of the program, from its words to its output.
 
-ghost use Rattle.std.specs.Prelude.{◌≡◌, ◌≢◌, ◌⊎◌, ℕ, List, [], map, string_bytes};
+ghost use Rattle.std.specs.Prelude.{◌≡◌, ℕ, List, map, string_bytes};
 ghost use Rattle.grid_out.specs.Faults.{CountsFaults};
 ghost use Rattle.grid_out.specs.Shelf.{AsksFor};
-ghost use Rattle.grid_out.specs.Sink.{Gains, Hands};
-ghost use Rattle.room_base.specs.Status.{line_of, status_of};
-ghost use Rattle.room_plain.specs.Run.{Answers, AreNames, GainsAtMost, IsHanded, Writes, is_read_fault, pieces_of};
+ghost use Rattle.room_plain.specs.Run.{Answers, AreNames, IsHanded, Writes, is_read_fault};
 
 use crate::answer::answer;
 use grid_out::{Shelf, Sink};
-use room_base::{Failure, Refusal, Status, refusal_line};
+use room_base::{Failure, Status, refuse};
 use std::alloc::Global;
 
 /// Does what the words say, over named content and an output.
@@ -37,17 +35,4 @@ pub fn run_plain<F: Shelf, K: Sink>(
         Err(Failure::Refusal(refusal)) => refuse(alloc, refusal, out),
         Err(Failure::NoMemory) => Status::NoMemory,
     }
-}
-
-/// Writes the line of a refusal. A line that the output does not take changes nothing.
-fn refuse<K: Sink>(alloc: Global, refusal: Refusal, out: &mut K) -> Status
-    ensures writes { ((result ≡ status_of refusal) × GainsAtMost (K.written out.old) (K.written out.new) (K.faults out.old) (K.faults out.new) (line_of refusal))
-        ⊎ ((result ≡ Status.NoMemory) × (refusal ≢ Refusal.ReadFault) × Gains (K.written out.old) (K.written out.new) [] × (K.faults out.new ≡ K.faults out.old)) }
-    ensures hands { Hands (K.handed out.old) (K.handed out.new) (pieces_of result (line_of refusal)) }
-{
-    let Ok(line) = refusal_line(alloc, refusal) else {
-        return Status::NoMemory;
-    };
-    let _ = out.write_all(line.as_bytes());
-    Status::from(refusal)
 }

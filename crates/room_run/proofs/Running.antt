@@ -1,19 +1,23 @@
 -- What the consoles of a room did, once it is closed.
-use Rattle.std.proofs.Common.{◌≡◌, ℕ, zero, suc, ◌+◌, ◌<◌, ◌≤◌, ◌^◌, List, [], ◌∷◌, length, map, All, IfSome, Option, Some, slice_get, slice_index_or, refl, ap, sym, subst, ◌∙◌, arith}
+use Rattle.std.proofs.Common.{◌≡◌, ℕ, zero, suc, ◌+◌, ◌<◌, ◌≤◌, ◌^◌, List, [], ◌∷◌, ◌++◌, length, map, take, All, IfSome, Some, slice_get, slice_index_or, refl, ap, sym, subst, ◌∙◌, arith}
 use Rattle.std.proofs.lemmas.List.Elements.{All-head, All-tail}
+use Rattle.std.proofs.Math.Seq.{take-append_seam}
+use Rattle.std.proofs.lemmas.List.Sums.{sum_by-cons}
 use Rattle.std.specs.List.{sum_by}
 use Rattle.atomic_table.specs.Seated.{TableId}
 use Rattle.board.specs.Ends.{newly_seated}
 use Rattle.board.specs.Lists.{IsPrefix}
 use Rattle.cim_words.specs.declared.statement.Statement.{Statement}
-use Rattle.desk.specs.Ends.{AreAllPosts, PostState, number_of}
+use Rattle.desk.specs.Ends.{AreAllPosts, number_of}
+use Rattle.desk.specs.Legal.{IsLegal}
 use Rattle.desk.specs.Receipts.{AreNumbered, receipts_in}
-use Rattle.room_run.specs.Runs.{AreConsoleRuns, ConsoleRecord, IsConsoleRun, unseen}
+use Rattle.room_run.specs.Runs.{AreConsoleRuns, ConsoleRecord, IsConsoleRun, IsRun, unseen}
 use Rattle.room_run.specs.Standing.{counts_of, doors_of, posts_of}
 use Rattle.room_words.specs.declared.event.Entry.{Entry}
 use Rattle.session_host.specs.Doors.{AreVisits, AtDoor, ServedItsDoor}
 use Rattle.session_host.specs.Told.{Post}
 use Rattle.session_host.specs.Views.{View, view_of}
+use Rattle.versions.specs.History.{Judges}
 use Rattle.versions.specs.Past.{Past}
 
 -- all of two lists are related, place by place
@@ -42,12 +46,15 @@ pub are_new : (base : List Statement) (board : TableId) (first : Past) (from : �
 are_new base board first from [] fresh = tt
 are_new base board first from (post ∷ posts) fresh =
     let its = fresh 0 (omega arith) in
-    let number : from + 0 ≡ from = omega arith in
-    (ap (λ r. r.console) its.0 ∙ number, ap (λ r. r.origin) its.0, cc,
+    let number : from + 0 ≡ from = omega arith in (
+      ap (λ r. r.console) its.0 ∙ number,
+      ap (λ r. r.origin) its.0,
+      cc,
       are_new base board first (from + 1) posts (λ index inside.
-        let next : from + suc index ≡ from + 1 + index = omega arith in
-        subst (λ (n : ℕ). IfSome (slice_get posts index) (λ (p : Post). (p.reader ≡ newly_seated {I = Entry} board n [] base first) × (p.receipts ≡ []))) next
-          (fresh (suc index) (omega (arith, inside)))))
+          let next : from + suc index ≡ from + 1 + index = omega arith in
+          subst (λ (n : ℕ). IfSome (slice_get posts index) (λ (p : Post). (p.reader ≡ newly_seated {I = Entry} board n [] base first) × (p.receipts ≡ []))) next
+          (fresh (suc index) (omega (arith, inside)))),
+    )
 
 -- they are all consoles of the room still
 pub same_places : (xs ys : List AtDoor) → EachServed xs ys → map (λ (p : Post). p.reader.console) (posts_of ys) ≡ map (λ (p : Post). p.reader.console) (posts_of xs)
@@ -77,9 +84,9 @@ as_many (x ∷ xs) (z ∷ ys) same =
 
 pub all_posts : (consoles : ℕ) (xs ys : List Post) → map (λ (p : Post). p.reader.console) ys ≡ map (λ (p : Post). p.reader.console) xs → AreAllPosts consoles xs → AreAllPosts consoles ys
 all_posts consoles xs ys same all = record {
-    count = as_many xs ys same ∙ all.count;
-    order = λ index post is. let its = at_place xs ys same index post is in its.2 ∙ all.order index its.0 its.1;
-  }
+  count = as_many xs ys same ∙ all.count;
+  order = λ index post is. let its = at_place xs ys same index post is in its.2 ∙ all.order index its.0 its.1;
+}
 
 -- what holds of the consoles at the close of the room
 pub record Closes (history : List Entry) (posts : List Post) : Type 0 where
@@ -89,12 +96,12 @@ pub record Closes (history : List Entry) (posts : List Post) : Type 0 where
 
 closes_rest : (history : List Entry) (post : Post) (posts : List Post) → Closes history (post ∷ posts) → Closes history posts
 closes_rest history post posts closes = record {
-    seen = All-tail _ post posts closes.seen;
-    receipts = All-tail _ post posts closes.receipts;
-    serials = All-tail _ post posts closes.serials;
-  }
+  seen = All-tail (λ (p : Post). IsPrefix p.reader.seen history) post posts closes.seen;
+  receipts = All-tail (λ (p : Post). p.receipts ≡ receipts_in (number_of p) history) post posts closes.receipts;
+  serials = All-tail (λ (p : Post). AreNumbered p.receipts) post posts closes.serials;
+}
 
-pub records : (xs ys : List AtDoor) → EachServed xs ys → List ConsoleRecord
+abbrev pub records : (xs ys : List AtDoor) → EachServed xs ys → List ConsoleRecord
 records [] [] each = []
 records [] (y ∷ ys) each = []
 records (x ∷ xs) [] each = []
@@ -108,7 +115,7 @@ one_run base history from x y served console origin new seen receipts serials =
     let after : number_of y.post ≡ from + 1 = ap (λ (n : ℕ). n + 1) (served.served.console ∙ console) in
     record {
       sessions = subst (λ (v : View). AreVisits base history (from + 1) v served.served.visits (view_of y.post)) new
-        (subst (λ (n : ℕ). AreVisits base history n (view_of x.post) served.served.visits (view_of y.post)) number (served.served.heard base origin history seen));
+          (subst (λ (n : ℕ). AreVisits base history n (view_of x.post) served.served.visits (view_of y.post)) number (served.served.heard base origin history seen));
       seen = seen;
       made = receipts ∙ ap (λ (n : ℕ). receipts_in n history) after;
       serials = serials;
@@ -122,17 +129,20 @@ are_runs base history from [] [] each new closes = tt
 are_runs base history from [] (y ∷ ys) each new closes = absurd each
 are_runs base history from (x ∷ xs) [] each new closes = absurd each
 are_runs base history from (x ∷ xs) (y ∷ ys) each new closes = (
-    one_run base history from x y each.0 new.0 new.1 new.2 (All-head _ y.post (posts_of ys) closes.seen) (All-head _ y.post (posts_of ys) closes.receipts)
-      (All-head _ y.post (posts_of ys) closes.serials),
-    are_runs base history (from + 1) xs ys each.1 new.3 (closes_rest history y.post (posts_of ys) closes)
-  )
+  one_run base history from x y each.0 new.0 new.1 new.2 (All-head (λ (p : Post). IsPrefix p.reader.seen history) y.post (posts_of ys) closes.seen)
+      (All-head (λ (p : Post). p.receipts ≡ receipts_in (number_of p) history) y.post (posts_of ys) closes.receipts)
+      (All-head (λ (p : Post). AreNumbered p.receipts) y.post (posts_of ys) closes.serials),
+  are_runs base history (from + 1) xs ys each.1 new.3 (closes_rest history y.post (posts_of ys) closes),
+)
 
 -- the receipts of all consoles together
 pub all_made : (xs ys : List AtDoor) (each : EachServed xs ys) → sum_by (λ (c : ConsoleRecord). length c.last.made) (records xs ys each) ≡ sum_by (λ (p : Post). length p.receipts) (posts_of ys)
 all_made [] [] each = refl
 all_made [] (y ∷ ys) each = absurd each
 all_made (x ∷ xs) [] each = absurd each
-all_made (x ∷ xs) (y ∷ ys) each = cc
+all_made (x ∷ xs) (y ∷ ys) each =
+    sum_by-cons (λ (c : ConsoleRecord). length c.last.made) (record { visits = each.0.served.visits; last = view_of y.post }) (records xs ys each.1)
+    ∙ (ap (λ (n : ℕ). length y.post.receipts + n) (all_made xs ys each.1) ∙ sym (sum_by-cons (λ (p : Post). length p.receipts) y.post (posts_of ys)))
 
 -- before its first session a console has looked at nothing
 pub no_looks : (base : List Statement) (from : ℕ) (xs : List AtDoor) → AreNew base from (posts_of xs) → (index : ℕ) (stand : AtDoor) → index < length xs →
@@ -140,3 +150,43 @@ pub no_looks : (base : List Statement) (from : ℕ) (xs : List AtDoor) → AreNe
 no_looks base from [] new index stand inside = absurd (omega (arith, inside))
 no_looks base from (x ∷ xs) new zero stand inside = let none : length x.post.reader.founds ≡ 0 = ap (λ (v : View). length v.founds) new.2 in omega (arith, none)
 no_looks base from (x ∷ xs) new (suc index) stand inside = no_looks base (from + 1) xs new.3 index stand (omega (arith, inside))
+
+-- the consoles of a room that was just opened, at their doors
+pub new_stands : (base : List Statement) (board : TableId) (first : Past) (count : ℕ) (posts : List Post) (xs : List AtDoor) → posts_of xs ≡ posts → AreAllPosts count posts →
+    ((index : ℕ) → index < count → IfSome (slice_get posts index) (λ post. (post.reader ≡ newly_seated {I = Entry} board index [] base first) × (post.receipts ≡ []))) →
+    AreNew base 0 (posts_of xs)
+new_stands base board first count posts xs same all fresh =
+    subst (AreNew base 0) (sym same) (are_new base board first 0 posts (λ index inside.
+    let counted : length posts ≡ count = all.count in
+    let plain : index ≡ 0 + index = omega arith in
+    subst (λ (n : ℕ). IfSome (slice_get posts index) (λ (p : Post). (p.reader ≡ newly_seated {I = Entry} board n [] base first) × (p.receipts ≡ []))) plain
+    (fresh index (omega (arith, inside, counted)))))
+
+pub all_at : {X : Type 0} (P : X → Type 0) (xs : List X) → All P xs → (index : ℕ) (x : X) → index < length xs → P (slice_index_or xs index x)
+all_at P [] each index x inside = absurd (omega (arith, inside))
+all_at P (y ∷ ys) each zero x inside = All-head P y ys each
+all_at P (y ∷ ys) each (suc index) x inside = all_at P ys (All-tail P y ys each) index x (omega (arith, inside))
+
+-- a list that was changed where it stands, in a vector
+pub written : {X : Type 0} (ys rest : List X) (len : ℕ) → length ys ≡ len → take len (ys ++ rest) ≡ ys
+written ys rest len is = subst (λ (n : ℕ). take n (ys ++ rest) ≡ ys) is (take-append_seam ys rest)
+
+-- the base of the closed room is that of the first version
+pub same_base : (base last : List Statement) (xs ys : List AtDoor) → EachServed xs ys → AreNew base 0 (posts_of xs) → All (λ post. post.reader.origin ≡ Some last) (posts_of ys) →
+    0 < length xs → last ≡ base
+same_base base last [] ys each new began some = absurd (omega (arith, some))
+same_base base last (x ∷ xs) [] each new began some = absurd each
+same_base base last (x ∷ xs) (y ∷ ys) each new began some =
+    let at_first : x.post.reader.origin ≡ Some base = new.1 in
+    let kept : y.post.reader.origin ≡ x.post.reader.origin = each.0.served.origin in
+    let at_last : y.post.reader.origin ≡ Some last = All-head (λ (p : Post). p.reader.origin ≡ Some last) y.post (posts_of ys) began in
+    let both : Some last ≡ Some base = sym at_last ∙ (kept ∙ at_first) in cc
+
+pub is_run : (base : List Statement) (history : List Entry) (xs ys : List AtDoor) → EachServed xs ys → AreNew base 0 (posts_of xs) → Closes history (posts_of ys) →
+    IsLegal (Judges base) history → sum_by (λ (p : Post). length p.receipts) (posts_of ys) ≡ length history → IsRun base history (doors_of xs) (doors_of ys) (counts_of ys)
+is_run base history xs ys each new closes legal all = record {
+  legal = legal;
+  records = records xs ys each;
+  consoles = are_runs base history 0 xs ys each new closes;
+  receipts = all_made xs ys each ∙ all;
+}

@@ -1,5 +1,5 @@
 -- Consoles that stand at their doors. All of it is of this project.
-use Rattle.std.specs.Prelude.{List, [], map, All}
+use Rattle.std.specs.Prelude.{List, map, All}
 use Rattle.session_host.specs.Doors.{AtDoor, DoorShown, IsFresh}
 use Rattle.session_host.specs.Told.{Post}
 use Rattle.session_host.specs.declared.door_end.DoorEnd.{DoorEnd}

@@ -64,11 +64,7 @@ impl<D: Door + Drop, N: RoomName> Places<D, N> {
         })
     }
 
-    fn fill(
-        self,
-        mut consoles: Vec<Console<Version, N>>,
-        mut doors: Vec<D>,
-    ) -> Standing<D, N>
+    fn fill(self, mut consoles: Vec<Console<Version, N>>, mut doors: Vec<D>) -> Standing<D, N>
         requires rooms { length self.rooms.items ≡ length doors.items }
         requires stands { (self.stands.items ≡ []) × (length doors.items ≤ vec_capacity self.stands) }
         requires ends { (self.ends.items ≡ []) × (length doors.items ≤ vec_capacity self.ends) }

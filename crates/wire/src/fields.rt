@@ -111,8 +111,8 @@ fn read_phases(word: &[u8]) -> Option<PhaseSet>
     }
 }
 
-/// The number that a word spells in decimal, without leading zeros, up to the greatest one that it may be.
-fn read_number(word: &[u8], most: u64) -> Option<u64>
+/// The number that a word spells in decimal, without leading zeros, up to the greatest one that it may be. Any other word is none.
+pub fn read_number(word: &[u8], most: u64) -> Option<u64>
     ensures found { IfSome result (λ number. SpellsNumber most number word.now) }
     ensures none { IfNone result ((number : ℕ) → SpellsNumber most number word.now → ⊥) }
 {

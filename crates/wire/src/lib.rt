@@ -14,6 +14,7 @@ mod written_words;
 
 pub use cim_words::NoMemory;
 pub use entries::write_entry;
+pub use fields::read_number;
 pub use laws::{a_stage_is_one_word, requests_have_one_reading, written_acts_are_read};
 pub use replies::{REPLY_ROOM, write_reply};
 pub use request::Request;

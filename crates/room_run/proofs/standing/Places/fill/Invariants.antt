@@ -7,16 +7,16 @@ use Rattle.room_run.proofs.standing.Places.fill.Given as goal
 abbrev pub invariant-loop-consoles : goal.invariant-loop-consoles
 invariant-loop-consoles g l =
     let words : DoorWords g.row.D.Denot g.row.D-L.Denot = record {
-        number = g.D.Door.number;
-        faults = g.D.Door.faults;
-        coming = g.D.Door.coming;
-        back = g.D.Door.back;
-        lent = g.D.Door.lent;
-        left = g.D.L.Link.left;
-        written = g.D.L.Link.written;
-        read_faults = g.D.L.Link.read_faults;
-        write_faults = g.D.L.Link.write_faults;
-      } in
+      number = g.D.Door.number;
+      faults = g.D.Door.faults;
+      coming = g.D.Door.coming;
+      back = g.D.Door.back;
+      lent = g.D.Door.lent;
+      left = g.D.L.Link.left;
+      written = g.D.L.Link.written;
+      read_faults = g.D.L.Link.read_faults;
+      write_faults = g.D.L.Link.write_faults;
+    } in
     (posts_of l.stands.items ++ l.consoles.items ≡ l.fn.consoles.items)
     × (doors_of l.stands.items ++ map (door_shown words) l.doors.items ≡ map (door_shown words) l.fn.doors.items)
     × AllFresh l.stands.items

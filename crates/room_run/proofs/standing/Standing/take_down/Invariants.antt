@@ -7,16 +7,16 @@ use Rattle.room_run.proofs.standing.Standing.take_down.Given as goal
 abbrev pub invariant-loop-stands : goal.invariant-loop-stands
 invariant-loop-stands g l =
     let words : DoorWords g.row.D.Denot g.row.D-L.Denot = record {
-        number = g.D.Door.number;
-        faults = g.D.Door.faults;
-        coming = g.D.Door.coming;
-        back = g.D.Door.back;
-        lent = g.D.Door.lent;
-        left = g.D.L.Link.left;
-        written = g.D.L.Link.written;
-        read_faults = g.D.L.Link.read_faults;
-        write_faults = g.D.L.Link.write_faults;
-      } in
+      number = g.D.Door.number;
+      faults = g.D.Door.faults;
+      coming = g.D.Door.coming;
+      back = g.D.Door.back;
+      lent = g.D.Door.lent;
+      left = g.D.L.Link.left;
+      written = g.D.L.Link.written;
+      read_faults = g.D.L.Link.read_faults;
+      write_faults = g.D.L.Link.write_faults;
+    } in
     (l.consoles.items ++ posts_of l.stands.items ≡ posts_of l.fn.self.stands.items)
     × (map (door_shown words) l.doors.items ++ doors_of l.stands.items ≡ doors_of l.fn.self.stands.items)
     × (l.ends.items ++ counts_of l.stands.items ≡ counts_of l.fn.self.stands.items)
