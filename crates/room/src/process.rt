@@ -5,8 +5,8 @@ ghost use Rattle.std.specs.Vec.Iter.{into_iter_items};
 ghost use Rattle.grid_out.specs.Faults.{CountsFaults};
 ghost use Rattle.grid_out.specs.Shelf.{AsksFor};
 ghost use Rattle.room_base.specs.declared.status.Status.{Status};
-ghost use Rattle.room_base.specs.Status.{status_code};
-ghost use Rattle.room_plain.specs.Run.{Answers, AreNames, IsHanded, Writes, is_read_fault};
+ghost use Rattle.room_base.specs.Status.{is_read_fault, status_code};
+ghost use Rattle.room_plain.specs.Run.{Answers, AreNames, IsHanded, Writes};
 
 use cim_words::NoMemory;
 use grid_out::{Shelf, Sink};

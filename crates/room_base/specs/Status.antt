@@ -1,5 +1,5 @@
 -- The codes and lines of the statuses, of this project.
-use Rattle.std.specs.Prelude.{ℕ, List, [], ◌∷◌, ◌++◌, codes}
+use Rattle.std.specs.Prelude.{ℕ, List, [], ◌∷◌, ◌++◌, codes, Bool, true, false}
 use Rattle.std.specs.Fmt.{decimal}
 use Rattle.cim_words.specs.IdText.{id_text}
 use Rattle.cim_words.specs.Written.{line_feed}
@@ -60,3 +60,8 @@ status_of refusal.Doors = status.BadDoors
 status_of refusal.ReadFault = status.ReadFault
 status_of (refusal.Base why) = status_of_base why
 status_of (refusal.Task task.Asked) = status.Asked
+
+-- a read that failed is told as such, and nothing else is
+abbrev pub is_read_fault : Status → Bool
+is_read_fault status.ReadFault = true
+is_read_fault _ = false

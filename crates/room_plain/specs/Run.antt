@@ -162,11 +162,6 @@ abbrev pub AreNames : List (List ℕ) → Status → List (List ℕ) → Type 0
 AreNames words ends names = (IsNoCommand words × (names ≡ []))
     ⊎ ((asks : Asks words) × ((names ≡ asks.name ∷ asks.more) ⊎ (IsTrue (ends_early ends) × (names ≡ asks.name ∷ []))))
 
--- a read that failed is told as such, and nothing else is
-abbrev pub is_read_fault : Status → Bool
-is_read_fault status.ReadFault = true
-is_read_fault _ = false
-
 -- a status that follows from the words and from what the shelf told, without a fault or want of memory
 abbrev pub is_answer : Status → Bool
 is_answer status.ReadFault = false

@@ -5,7 +5,8 @@ ghost use Rattle.grid_out.specs.Faults.{CountsFaults};
 ghost use Rattle.grid_out.specs.Shelf.{AsksFor};
 ghost use Rattle.room_base.specs.Refusal.{IfRefusal};
 ghost use Rattle.room_plain.specs.Ending.{IsSaid, ending};
-ghost use Rattle.room_plain.specs.Run.{AreNames, Explains, is_read_fault};
+ghost use Rattle.room_base.specs.Status.{is_read_fault};
+ghost use Rattle.room_plain.specs.Run.{AreNames, Explains};
 ghost use Rattle.history_writer.specs.Sending.{output};
 
 use crate::command::command;

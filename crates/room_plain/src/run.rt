@@ -3,7 +3,8 @@
 ghost use Rattle.std.specs.Prelude.{◌≡◌, ℕ, List, map, string_bytes};
 ghost use Rattle.grid_out.specs.Faults.{CountsFaults};
 ghost use Rattle.grid_out.specs.Shelf.{AsksFor};
-ghost use Rattle.room_plain.specs.Run.{Answers, AreNames, IsHanded, Writes, is_read_fault};
+ghost use Rattle.room_base.specs.Status.{is_read_fault};
+ghost use Rattle.room_plain.specs.Run.{Answers, AreNames, IsHanded, Writes};
 
 use crate::answer::answer;
 use grid_out::{Shelf, Sink};
