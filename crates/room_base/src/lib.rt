@@ -13,6 +13,6 @@ pub use base::read_base;
 pub use files::{is_file_name, read_file};
 pub use laws::bases_have_one_reading;
 pub use refusal::{BaseRefusal, Failure, Refusal, TaskRefusal};
-pub use refusing::refuse;
 pub use refusal_lines::{RefusalLine, refusal_line};
+pub use refusing::refuse;
 pub use status::Status;

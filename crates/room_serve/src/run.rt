@@ -99,11 +99,13 @@ where
         × (output (K.written out.new) (K.faults out.new) (K.handed out.new) ≡ output (K.written out.old) (K.faults out.old) (K.handed out.old))) }
 {
     match run_room(rt, alloc, first, doors, gate) {
-        Ok(Run {
-            closed,
-            doors,
-            ends,
-        }) => {
+        Ok(
+            Run {
+                closed,
+                doors,
+                ends,
+            },
+        ) => {
             let status = tell_history(alloc, &closed.last, &ends, out);
             ServeEnd {
                 status,
