@@ -49,8 +49,8 @@ is_end end.Spent end.Spent = true
 is_end _ _ = false
 
 abbrev pub how_many : LinesEnd → List LinesEnd → ℕ
-how_many ended [] = 0
-how_many ended (other ∷ ends) = (if is_end ended other then 1 else 0) + how_many ended ends
+how_many this [] = 0
+how_many this (other ∷ ends) = (if is_end this other then 1 else 0) + how_many this ends
 
 -- the counts of these ends
 pub record CountsEnds (counted : DoorEnd) (ends : List LinesEnd) : Type 0 where
